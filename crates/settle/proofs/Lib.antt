@@ -1,0 +1,3 @@
+pub mod Test
+pub mod Finite
+pub mod Chain
