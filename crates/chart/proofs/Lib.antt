@@ -1,0 +1,6 @@
+pub mod Steps
+pub mod Reading
+pub mod Judging
+pub mod Accepted
+pub mod Exactly
+pub mod Refused
