@@ -1,0 +1,91 @@
+use Prim.Native.Nat.{ℕ, _-_, _<_}
+use native.Mathlib.Omega.{arith}
+use borrow.Author.Needs.{needs}
+use borrow.Fn.Kinds.{In}
+use borrow.Fn.PlainCycle.{Measures, is, falls, and}
+use Rattle.sheet.proofs.Reading.{parse-none, read-step, fewer-more}
+use Rattle.sheet.proofs.read_formula.Reads as read-formula
+use Rattle.sheet.proofs.read_formula.Kinds as read-formula-kinds
+use Rattle.sheet.proofs.+read_formula.Lts-read_formula as read-formula-lts
+use Rattle.sheet.proofs.node_at.Reads as node-at-reads
+use Rattle.sheet.proofs.refuse.Reads as refuse-reads
+use Rattle.sheet.proofs.+read_formula.{statement}
+use Rattle.sheet.proofs.+read_formula.Tie.{close}
+
+-- the nodes still unread fall at each call
+abbrev μ-read-formula : Measures 1 read-formula-kinds.ps ℕ
+μ-read-formula κs a = a .1 .1 .1 .0
+
+abbrev read-formula-at : ℕ → In 1 read-formula-kinds.ps
+read-formula-at t =
+    and 1 read-formula-kinds.ps (is 1 read-formula-kinds.ps μ-read-formula t) read-formula.Pre
+
+abbrev read-formula-below : ℕ → In 1 read-formula-kinds.ps
+read-formula-below t =
+    and
+    1
+    read-formula-kinds.ps
+    (falls 1 read-formula-kinds.ps _<_ μ-read-formula t)
+    read-formula.Pre
+
+pub +read-formula-spec : {M : Type 1} → statement M
++read-formula-spec = close μ-read-formula λ t. read-formula-lts.spec (
+  refuse-reads.Asked,
+  refuse-reads.Learnt,
+  node-at-reads.Asked,
+  node-at-reads.Learnt,
+  read-formula-below t,
+  read-formula.Post,
+)
+    (read-formula-at t)
+    read-formula.Post
+    (λ c κs. search needs)
+    (λ c. (λ fuel h. rw (parse-none _ _ _ _ _ (c .before .if1 .taken), c .refuse .ensures), tt))
+    (λ c κs. search needs)
+    (λ c. search needs)
+    (λ c. search needs)
+    (λ c. search needs)
+    (λ c. search needs)
+    (λ c. search needs)
+    (λ c κs. (omega (arith, c .before .before .before .before .before .before .pre .0), tt))
+    (λ c. search needs)
+    (λ c. search needs)
+    (λ c κs. (omega (arith, c .before .before .before .before .before .before .pre .0), tt))
+    (λ c. search needs)
+    (λ c. search needs)
+    (λ c κs.
+    let f : c .before .after .given .0 .1 .0 < c .before .before .before .before .before .before .before .before .before .before .args .left - 1 = rw (c .before .after .given .1) at (c .before .before .before .read-formula2 .ensures .1) in
+    (omega (arith, c .before .before .before .before .before .before .before .before .before .before .pre .0), tt))
+    (λ c. (
+      λ fuel h. rw (read-step _ _ _ _ _ (c .before .before .before .before .if1 .left) h, ← c .before .before .before .node-at .ensures, c .before .r .given .1),
+      tt,
+    ))
+    (λ c. (
+      λ fuel h. rw (read-step _ _ _ _ _ (c .before .before .before .before .if1 .left) h, ← c .before .before .before .node-at .ensures, c .before .next .given .1),
+      omega arith,
+    ))
+    (λ c. (
+      λ fuel h. rw (read-step _ _ _ _ _ (c .before .before .before .before .before .if1 .left) h, ← c .before .before .before .before .node-at .ensures, c .before .before .next2 .given .1) (c .read-formula .ensures .0 (fuel - 1) (omega arith)),
+      fewer-more (c .before .before .before .before .before .before .before .args .left - 1) (c .before .before .before .before .before .before .before .args .left) (c .read-formula .result) (omega arith) (c .read-formula .ensures .1),
+    ))
+    (λ c. (
+      λ fuel h. rw (
+        read-step _ _ _ _ _ (c .before .before .before .before .before .before .before .before .if1 .left) h,
+        ← c .before .before .before .before .before .before .before .node-at .ensures,
+        c .before .before .before .before .before .next3 .given .1,
+        ← c .before .before .before .read-formula2 .ensures .0 (fuel - 1) (omega arith),
+        c .before .r2 .given .1,
+      ),
+      tt,
+    ))
+    (λ c.
+    let f : c .before .before .after .given .0 .1 .0 < c .before .before .before .before .before .before .before .before .before .before .before .args .left - 1 = rw (c .before .before .after .given .1) at (c .before .before .before .before .read-formula2 .ensures .1) in (
+      λ fuel h. rw (
+        read-step _ _ _ _ _ (c .before .before .before .before .before .before .before .before .before .if1 .left) h,
+        ← c .before .before .before .before .before .before .before .before .node-at .ensures,
+        c .before .before .before .before .before .before .next3 .given .1,
+        ← c .before .before .before .before .read-formula2 .ensures .0 (fuel - 1) (omega arith),
+        c .before .before .after .given .1,
+      ) (c .read-formula3 .ensures .0 (fuel - 1) (omega arith)),
+      fewer-more (c .before .before .after .given .0 .1 .0) (c .before .before .before .before .before .before .before .before .before .before .before .args .left) (c .read-formula3 .result) (omega arith) (c .read-formula3 .ensures .1),
+    ))

@@ -1,0 +1,5 @@
+pub mod Formula
+pub mod Layout
+pub mod Meaning
+pub mod Reading
+pub mod Solution
