@@ -1,0 +1,5 @@
+pub mod Matched
+pub mod Formulas
+pub mod Mark
+pub mod Bisimulation
+pub mod Rounds

@@ -1,0 +1,3 @@
+pub mod Relation
+pub mod Bisimulation
+pub mod Mark
