@@ -1,0 +1,127 @@
+-- Document 01's starred boards: one list of cases, from the boards' own bytes, and what each case says in terms of the definitions.
+-- That all of them hold is `starred-boards-hold` of proofs/Boards.antt.
+use Prim.Native.Nat.{ℕ, _+_, _*_, _<_}
+use mathlib.Core.Path.{_≡_}
+use mathlib.Core.Bool.{Bool, true, false}
+use mathlib.Core.List.{List, [], _∷_}
+use lib.ListN.{length, getD}
+use Rattle.settle.specs.Test.{count}
+use Rattle.settle.specs.Finite.{below, pairs}
+use Rattle.settle.specs.Chain.{Rounds}
+use Rattle.chart.specs.Chart.{Chart, states, actions}
+use Rattle.chart.specs.Reading.{readChart, chartIn}
+use Rattle.chart.specs.declared.Shape.{Shape}
+use Rattle.chart.specs.declared.ChartRead.the-variants as Read
+use Rattle.sheet.specs.Formula.{Formula}
+use Rattle.sheet.specs.Solution.{Satisfies, SheetRounds}
+use Rattle.sheet.specs.Reading.{sheet, readSheet}
+use Rattle.words.specs.Words.{member}
+use Rattle.nearness.specs.Relation.{Near}
+use Rattle.nearness.specs.Bisimulation.{Simulates}
+use Rattle.nearness.specs.Mark.{Mark}
+
+pub data Board : Type 0 where
+  -- a chart's bytes, the marks of all pairs row by row, and the rounds
+  marks : List ℕ → List ℕ → ℕ → Board
+  -- a chart's bytes, and pairs (p, q) of which q does, or does not, simulate p
+  simulates : List ℕ → List ((ℕ × ℕ) × Bool) → Board
+  -- a chart's bytes, a sheet's bytes, the word, the number of states and the rounds
+  satisfies : List ℕ → List ℕ → ℕ → ℕ → ℕ → Board
+
+-- ---- what a case says
+
+abbrev pub InChart : List ℕ → (Chart → Type 0) → Type 0
+InChart bytes Says = (sh : Shape) × (readChart bytes ≡ Read.Chart sh) × Says (chartIn bytes sh)
+
+abbrev pub Truth : Bool → Type 0 → Type 0
+Truth true P = P
+Truth false P = P → ⊥
+
+pub record MarksAre (expected : List ℕ) (rounds : ℕ) (c : Chart) : Type 0 where
+  pub matrix : length expected ≡ states c * states c
+  pub each-mark : (p q : ℕ) → p < states c → q < states c → Mark (c .steps) p q (getD expected (p * states c + q) 0)
+  pub rounds-are : Rounds (pairs (states c)) (Near (c .steps)) rounds
+
+-- each of the listed pairs simulates, or not, as said
+unfoldable pub SimulationsAre : List ((ℕ × ℕ) × Bool) → Chart → Type 0
+SimulationsAre [] c = Unit {0}
+SimulationsAre (e ∷ rest) c = Truth (e .1) (Simulates (c .steps) (e .0 .0) (e .0 .1)) × SimulationsAre rest c
+
+pub record SatisfiesAre (kind : ℕ) (f : Formula) (word number rounds : ℕ) (c : Chart) : Type 0 where
+  pub bits : (s : ℕ) → s < states c → Truth (member word s) (Satisfies c kind f s)
+  pub number-is : count (member word) (below (states c)) ≡ number
+  pub rounds-are : SheetRounds c kind f rounds
+
+unfoldable pub Holds : Board → Type 0
+Holds (marks bytes expected rounds) = InChart bytes (MarksAre expected rounds)
+Holds (simulates bytes expected) = InChart bytes (SimulationsAre expected)
+Holds (satisfies bytes sheetBytes word number rounds) =
+    InChart bytes (λ c. (kind : ℕ) × (f : Formula) × (nodes : ℕ) × (readSheet sheetBytes (actions c) ≡ sheet kind nodes f) × SatisfiesAre kind f word number rounds c)
+
+-- ---- the cases
+
+unfoldable pub chartE : List ℕ
+chartE =
+    6 ∷ 1 ∷ 2 ∷ 3 ∷ 4 ∷ 5 ∷ 6
+    ∷ 3 ∷ 10 ∷ 20 ∷ 30
+    ∷ 7 ∷ 0
+    ∷ 0 ∷ 0 ∷ 2
+    ∷ 1 ∷ 0 ∷ 3
+    ∷ 1 ∷ 0 ∷ 4
+    ∷ 2 ∷ 1 ∷ 5
+    ∷ 2 ∷ 2 ∷ 5
+    ∷ 3 ∷ 1 ∷ 5
+    ∷ 4 ∷ 2 ∷ 5
+    ∷ []
+
+unfoldable pub chartL : List ℕ
+chartL =
+    3 ∷ 1 ∷ 2 ∷ 3
+    ∷ 1 ∷ 10
+    ∷ 3 ∷ 0
+    ∷ 0 ∷ 0 ∷ 0
+    ∷ 1 ∷ 0 ∷ 1
+    ∷ 1 ∷ 0 ∷ 2
+    ∷ []
+
+-- one state, no action, no transition
+unfoldable pub chartOne : List ℕ
+chartOne = 1 ∷ 0 ∷ 0 ∷ 0 ∷ 0 ∷ []
+
+unfoldable pub sheetE : List ℕ
+sheetE = 1 ∷ 1 ∷ 6 ∷ 6 ∷ 0 ∷ 3 ∷ 5 ∷ 1 ∷ 1 ∷ 5 ∷ 2 ∷ 1 ∷ []
+
+-- or (box 0 false), diamond 0 X, of either kind
+unfoldable pub sheetOr : ℕ → List ℕ
+sheetOr kind = 1 ∷ kind ∷ 5 ∷ 4 ∷ 6 ∷ 0 ∷ 2 ∷ 5 ∷ 0 ∷ 0 ∷ []
+
+-- and (diamond 0 true), box 0 X, of either kind
+unfoldable pub sheetAnd : ℕ → List ℕ
+sheetAnd kind = 1 ∷ kind ∷ 5 ∷ 3 ∷ 5 ∷ 0 ∷ 1 ∷ 6 ∷ 0 ∷ 0 ∷ []
+
+unfoldable pub starred : List Board
+starred =
+    marks chartE
+    (0 ∷ 2 ∷ 1 ∷ 1 ∷ 1 ∷ 1
+    ∷ 2 ∷ 0 ∷ 1 ∷ 1 ∷ 1 ∷ 1
+    ∷ 1 ∷ 1 ∷ 0 ∷ 1 ∷ 1 ∷ 1
+    ∷ 1 ∷ 1 ∷ 1 ∷ 0 ∷ 1 ∷ 1
+    ∷ 1 ∷ 1 ∷ 1 ∷ 1 ∷ 0 ∷ 1
+    ∷ 1 ∷ 1 ∷ 1 ∷ 1 ∷ 1 ∷ 0
+    ∷ []) 2
+    ∷ simulates chartE
+    (((1, 0), true) ∷ ((0, 1), false) ∷ ((3, 2), true)
+    ∷ ((5, 0), true) ∷ ((5, 1), true) ∷ ((5, 2), true) ∷ ((5, 3), true) ∷ ((5, 4), true) ∷ ((5, 5), true)
+    ∷ [])
+    ∷ satisfies chartE sheetE 61 5 1
+    ∷ marks chartL
+    (0 ∷ 2 ∷ 1
+    ∷ 2 ∷ 0 ∷ 1
+    ∷ 1 ∷ 1 ∷ 0
+    ∷ []) 2
+    ∷ satisfies chartL (sheetOr 1) 6 2 2
+    ∷ satisfies chartL (sheetOr 2) 7 3 0
+    ∷ satisfies chartL (sheetAnd 2) 1 1 2
+    ∷ satisfies chartL (sheetAnd 1) 0 0 0
+    ∷ marks chartOne (0 ∷ []) 0
+    ∷ []

@@ -1,0 +1,1 @@
+// The starred boards of document 01, as examples of the definitions.
