@@ -1,0 +1,88 @@
+-- The rounds, on words: what one application gives, and when it changes nothing.
+use Prim.Native.Nat.{ℕ, suc, _+_, _-_, _<_, _≤_, _^_}
+use mathlib.Core.Path.{_≡_, refl, ap, sym, _∙_}
+use mathlib.Core.Bool.{Bool}
+use mathlib.Core.List.{List}
+use native.Mathlib.Omega.{arith}
+use native.Mathlib.Numerals.{add-one}
+use native.Mathlib.Decide.{decLt}
+use Rattle.settle.specs.Finite.{below}
+use Rattle.settle.specs.Chain.{Same, empty, full, chain, Settled, Rounds}
+use Rattle.settle.proofs.Finite.{below-e, below-i}
+use Rattle.chart.specs.Chart.{Step}
+use Rattle.chart.specs.Reading.{chartIn}
+use Rattle.chart.specs.declared.Shape.{Shape}
+use Rattle.sheet.specs.Formula.{Formula}
+use Rattle.sheet.specs.Meaning.{holds}
+use Rattle.sheet.specs.Reading.{Parsed, parsed, wrong}
+use Rattle.sheet.proofs.Meaning.{TargetsBelow, holds-same}
+use Rattle.words.specs.Words.{wordOf, member}
+use Rattle.words.proofs.Words.{word-none, all-word, word-cong, word-member}
+use Rattle.evaluate.specs.Evaluating.{valueOf}
+use Rattle.property.specs.Solving.{formulaOf}
+use Rattle.evaluate.specs.declared.formula.Valued.{Valued}
+use Rattle.evaluate.specs.declared.formula.Valued.the-variants.{Value, Wrong}
+
+pub empty-word : (n : ℕ) → 0 ≡ wordOf n empty
+unfolding empty
+empty-word n = sym (word-none n)
+
+pub full-word : (n : ℕ) → 2 ^ n - 1 ≡ wordOf n full
+unfolding full
+full-word n = sym (all-word n)
+
+-- the word of a formula that was read; of none, 0
+abbrev pub wordIn : Valued → ℕ
+wordIn (Value w at left) = w
+wordIn (Wrong r) = 0
+
+pub round-word : (s : List ℕ) (sh : Shape) (T : ℕ → Bool) (u : Parsed) → wordOf (sh .n) (holds (sh .m) (chartIn s sh .steps) (formulaOf u) T) ≡ wordIn (valueOf s sh T u)
+unfolding holds
+round-word s sh T (parsed f at left) = refl
+round-word s sh T (wrong r) = word-none (sh .n)
+
+-- the words of two tests are equal exactly where the tests are
+pub same-word : (n : ℕ) (P Q : ℕ → Bool) → wordOf n P ≡ wordOf n Q → Same (below n) P Q
+same-word n P Q e x i = let h = below-e n x i in sym (word-member n x P h) ∙ ap (λ (w : ℕ). member w x) e ∙ word-member n x Q h
+
+pub word-same : (n : ℕ) (P Q : ℕ → Bool) → Same (below n) P Q → wordOf n P ≡ wordOf n Q
+word-same n P Q e = word-cong n P Q (λ x h. e x (below-i n x h))
+
+-- the loop, after so many rounds: none of the rounds before was settled
+pub record Rounding (n : ℕ) (F : (ℕ → Bool) → ℕ → Bool) (S : ℕ → Bool) (set next rounds : ℕ) : Type 0 where
+  pub few : rounds ≤ 4096
+  pub set-is : set ≡ wordOf n (chain F S rounds)
+  pub next-is : next ≡ wordOf n (chain F S (suc rounds))
+  pub unsettled : (j : ℕ) → j < rounds → Settled (below n) (chain F S) j → ⊥
+
+module _ (n m : ℕ) (steps : List Step) (targets : TargetsBelow n steps) (f : Formula) (S : ℕ → Bool) where
+  -- one application more
+  pub next-word : (set k : ℕ) → set ≡ wordOf n (chain (holds m steps f) S k) → wordOf n (holds m steps f (member set)) ≡ wordOf n (chain (holds m steps f) S (suc k))
+  unfolding chain
+  next-word set k e = word-cong n _ _ (holds-same m n steps targets f _ _ (λ x h. ap (λ (w : ℕ). member w x) e ∙ word-member n x _ h))
+
+  pub started : (set next : ℕ) → set ≡ wordOf n S → next ≡ wordOf n (holds m steps f (member set)) → Rounding n (holds m steps f) S set next 0
+  unfolding chain
+  started set next e h = record { few = omega arith; set-is = e; next-is = h ∙ next-word set 0 e; unsettled = λ j l. absurd (omega arith) }
+
+  pub one-more : (set next after rounds : ℕ) → Rounding n (holds m steps f) S set next rounds → (next ≡ set → ⊥) → (rounds ≡ 4096 → ⊥)
+      → after ≡ wordOf n (holds m steps f (member next)) → Rounding n (holds m steps f) S next after (rounds + 1)
+  one-more set next after rounds R ne below-limit e =
+      rw (add-one rounds) (record { few = omega (arith, R .few); set-is = R .next-is; next-is = e ∙ next-word next (suc rounds) (R .next-is); unsettled = λ j l. go j (decLt j rounds) l })
+    where
+      go : (j : ℕ) → Dec (j < rounds) → j < suc rounds → Settled (below n) (chain (holds m steps f) S) j → ⊥
+      go j (yes h) l s = R .unsettled j h s
+      go j (no h) l s = let q : j ≡ rounds = omega arith in ne (R .next-is ∙ sym (word-same n _ _ (rw q at s)) ∙ sym (R .set-is))
+
+-- where the next set is the same, the rounds are the least
+pub settled-rounds : (n : ℕ) (F : (ℕ → Bool) → ℕ → Bool) (S : ℕ → Bool) (set next rounds : ℕ) → Rounding n F S set next rounds → next ≡ set → Rounds (below n) (chain F S) rounds
+settled-rounds n F S set next rounds R e = (same-word n _ _ (sym (R .set-is) ∙ sym e ∙ R .next-is), R .unsettled)
+
+-- after 4,096 of them, where it is not, none was settled
+pub never-settled : (n : ℕ) (F : (ℕ → Bool) → ℕ → Bool) (S : ℕ → Bool) (set next rounds : ℕ) → Rounding n F S set next rounds → (next ≡ set → ⊥) → rounds ≡ 4096
+    → (k : ℕ) → k ≤ 4096 → Settled (below n) (chain F S) k → ⊥
+never-settled n F S set next rounds R ne e k h s = go (decLt k rounds)
+  where
+    go : Dec (k < rounds) → ⊥
+    go (yes l) = R .unsettled k l s
+    go (no l) = let q : k ≡ rounds = omega arith in ne (R .next-is ∙ sym (word-same n _ _ (rw q at s)) ∙ sym (R .set-is))

@@ -1,0 +1,44 @@
+-- What the rounds say of themselves. The promise cites none of it.
+use Prim.Native.Nat.{ℕ, _≤_}
+use mathlib.Core.Path.{_≡_}
+use mathlib.Core.Bool.{Bool}
+use mathlib.Core.List.{List}
+use Rattle.settle.specs.Test.{count}
+use Rattle.settle.specs.Finite.{below}
+use Rattle.settle.specs.Chain.{empty, full, chain, Settled, Rounds}
+use Rattle.refusal.specs.Refusal.{pick, lentRefusal}
+use Rattle.chart.specs.Reading.{chartIn}
+use Rattle.chart.specs.declared.Shape.{Shape}
+use Rattle.sheet.specs.Formula.{Formula, bottom}
+use Rattle.sheet.specs.Meaning.{holds}
+use Rattle.sheet.specs.Reading.{Parsed, parsed, wrong, parse}
+use Rattle.sheet.specs.Solution.{asksLeast}
+use Rattle.words.specs.Words.{wordOf}
+use Rattle.property.specs.declared.Solved.{Solved}
+use Rattle.property.specs.declared.PropertyAnswer.{PropertyAnswer}
+use Rattle.property.specs.declared.PropertyAnswer.the-variants.{Satisfied, Refused}
+
+-- the formula that was read; false where none was, whose word the evaluator's caller takes
+abbrev pub formulaOf : Parsed → Formula
+formulaOf (parsed f at left) = f
+formulaOf (wrong r) = bottom
+
+abbrev pub counts : ℕ → ℕ → ℕ → Shape
+counts n m t = record { n = n; m = m; t = t }
+
+-- one application, for the bytes of a chart with these counts and of a sheet with so many nodes
+abbrev pub application : List ℕ → ℕ → ℕ → ℕ → List ℕ → ℕ → (ℕ → Bool) → ℕ → Bool
+application chart n m t sheet nodes = holds m (chartIn chart (counts n m t) .steps) (formulaOf (parse nodes sheet m 3 nodes))
+
+abbrev pub firstSet : ℕ → ℕ → Bool
+firstSet kind = pick (asksLeast kind) empty full
+
+-- the word is that of the first applications of F, from S, that one more keeps
+pub record Reached (n : ℕ) (F : (ℕ → Bool) → ℕ → Bool) (S : ℕ → Bool) (a : Solved) : Type 0 where
+  pub word-is : a .word ≡ wordOf n (chain F S (a .rounds))
+  pub count-is : a .count ≡ count (chain F S (a .rounds)) (below n)
+  pub rounds-are : Rounds (below n) (chain F S) (a .rounds)
+
+abbrev pub Solves : ℕ → ((ℕ → Bool) → ℕ → Bool) → (ℕ → Bool) → PropertyAnswer → Type 0
+Solves n F S (Satisfied a) = Reached n F S a
+Solves n F S (Refused r) = (r ≡ lentRefusal 15) × ((k : ℕ) → k ≤ 4096 → Settled (below n) (chain F S) k → ⊥)
