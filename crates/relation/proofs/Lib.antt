@@ -1,0 +1,6 @@
+pub mod Cells
+pub mod Ranges
+pub mod Matching
+pub mod Striking
+pub mod Chained
+pub mod Promise

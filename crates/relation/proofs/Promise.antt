@@ -1,0 +1,130 @@
+-- The promise of a question that answers by a matrix, in each case, and that it leaves no choice. Assumes nothing.
+use Prim.Native.Nat.{ℕ, _+_, _*_, _≤_, _<_}
+use mathlib.Core.Path.{_≡_, refl, sym, ap, ap₂, subst, subst⁻¹, _∙_}
+use mathlib.Core.List.{List}
+use native.Mathlib.Omega.{arith}
+use native.Mathlib.Decide.{decLe}
+use lib.ListN.{length, getD}
+use lib.Seq.{ext-getD}
+use Rattle.settle.specs.Finite.{pairs}
+use Rattle.settle.specs.Chain.{Settled, Rounds}
+use Rattle.settle.proofs.Chain.{rounds-unique}
+use Rattle.refusal.specs.Refusal.{lentRefusal}
+use Rattle.refusal.specs.declared.Refusal.{Refusal}
+use Rattle.chart.specs.Chart.{Step}
+use Rattle.chart.specs.Reading.{chartIn, readChart}
+use Rattle.chart.specs.declared.Shape.{Shape}
+use Rattle.chart.specs.declared.ChartRead.{ChartRead}
+use Rattle.chart.specs.declared.ChartRead.the-variants as Read
+use Rattle.chart.proofs.Accepted.{accepted}
+use Rattle.chart.proofs.Refused.{refused}
+use Rattle.sheet.proofs.Meaning.{TargetsBelow}
+use Rattle.nearness.specs.Relation.{Relation}
+use Rattle.relation.specs.Promise.{Saying, Relations, Answers, MatrixPromise}
+use Rattle.relation.specs.Working.{Working, Worked}
+use Rattle.relation.specs.declared.Matrix.{Matrix}
+use Rattle.relation.specs.declared.MatrixAnswer.{MatrixAnswer}
+use Rattle.relation.specs.declared.MatrixAnswer.the-variants as Answer
+use Rattle.relation.proofs.Cells.{row-in, column-in, pair-cell}
+use Rattle.relation.proofs.Ranges.{stands-chart, targets-below}
+
+-- what a chart's bytes cannot be read as
+module _ (chart : List ℕ) (sh : Shape) (read : readChart chart ≡ Read.Chart sh) where
+  clash : {X : Type 0} (r : Refusal) → readChart chart ≡ Read.Refused r → X
+  clash r e = let z : _≡_ {A = ℕ} 0 1 = cc in absurd (omega arith)
+
+  same-shape : (u : Shape) → readChart chart ≡ Read.Chart u → sh ≡ u
+  same-shape u f = cc
+
+  targets : TargetsBelow (sh .n) (chartIn chart sh .steps)
+  targets = targets-below chart _ (sh .t) (sh .n) (stands-chart chart sh (accepted chart sh read))
+
+module _ {Says : Saying} {R : Relations} where
+  -- ---- the promise in each case
+
+  pub promise-chart : (chart old : List ℕ) (r : Refusal) → readChart chart ≡ Read.Refused r → MatrixPromise Says R chart old old (Answer.Refused r)
+  promise-chart chart old r e =
+      record {
+        chart-refused = λ s f. let z : r ≡ s = cc in ap Answer.Refused z;
+        then-too-short = λ sh f. clash chart sh f r e;
+        then-answered = λ sh f. clash chart sh f r e;
+        refusal-leaves-all = λ s f. refl;
+        later-bytes-stay = λ sh f y h. refl;
+        length-stays = refl;
+      }
+
+  module _ (chart : List ℕ) (sh : Shape) (read : readChart chart ≡ Read.Chart sh) where
+    pub promise-short : (old : List ℕ) → length old < sh .n * sh .n → MatrixPromise Says R chart old old (Answer.Refused (lentRefusal 14))
+    promise-short old h =
+        record {
+          chart-refused = λ r f. clash chart sh read r f;
+          then-too-short = λ u f l. refl;
+          then-answered = λ u f l. (let e : sh .n * sh .n ≡ u .n * u .n = ap (λ (x : Shape). x .n * x .n) (same-shape chart sh read u f) in absurd (omega arith));
+          refusal-leaves-all = λ r f. refl;
+          later-bytes-stay = λ u f y l. refl;
+          length-stays = refl;
+        }
+
+    pub promise-worked : {Cell : ℕ → ℕ × ℕ → ℕ → Type 0} {C : ℕ → Relation} (old new : List ℕ) (answer : MatrixAnswer) → sh .n * sh .n ≤ length old
+        → Worked Cell C (sh .n) old new answer
+        → ((given : Matrix) → 0 < sh .n → TargetsBelow (sh .n) (chartIn chart sh .steps) → Working Cell C (sh .n) old new given → Says (sh .n) (sh .m) (chartIn chart sh .steps) new given)
+        → MatrixPromise Says R chart old new answer
+    promise-worked old new (Answer.Refused r) h w says = absurd w
+    promise-worked old new (Answer.Given given) h w says =
+        record {
+          chart-refused = λ r f. clash chart sh read r f;
+          then-too-short = λ u f l. (let e : sh .n * sh .n ≡ u .n * u .n = ap (λ (x : Shape). x .n * x .n) (same-shape chart sh read u f) in absurd (omega arith));
+          then-answered = λ u f l. subst (λ (x : Shape). Answers Says R chart x new (Answer.Given given)) (same-shape chart sh read u f) (says given (accepted chart sh read .states-some) (targets chart sh read) w);
+          refusal-leaves-all = λ r f. (let z : _≡_ {A = ℕ} 0 1 = cc in absurd (omega arith));
+          later-bytes-stay = λ u f y l. w .after y (subst⁻¹ (λ (x : Shape). x .n * x .n ≤ y) (same-shape chart sh read u f) l);
+          length-stays = w .same-length;
+        }
+
+  -- ---- a chart that is accepted and a buffer with room: where the rounds settle, there is no refusal
+
+  module _ (settles : (n : ℕ) (steps : List Step) → 0 < n → n ≤ 64 → TargetsBelow n steps → (k : ℕ) × (k ≤ 4096) × Settled (pairs n) (R steps) k) where
+    pub always-answered : (chart : List ℕ) (sh : Shape) → readChart chart ≡ Read.Chart sh → (old new : List ℕ) (answer : MatrixAnswer) → sh .n * sh .n ≤ length old
+        → MatrixPromise Says R chart old new answer → (r : Refusal) → answer ≡ Answer.Refused r → ⊥
+    always-answered chart sh read old new answer h w r e =
+        let a = accepted chart sh read in
+        let k = settles (sh .n) (chartIn chart sh .steps) (a .states-some) (a .states-few) (targets chart sh read) in
+        subst (λ (x : MatrixAnswer). Answers Says R chart sh new x) e (w .then-answered sh read h) .1 (k .0) (k .1) (k .2)
+
+    -- so 15 never comes
+    pub never-15 : (chart old new : List ℕ) (answer : MatrixAnswer) → MatrixPromise Says R chart old new answer → (r : Refusal) → answer ≡ Answer.Refused r → r .number ≡ 15 → ⊥
+    never-15 chart old new answer w r e f = go (readChart chart) refl
+      where
+        other : (s : Refusal) → answer ≡ Answer.Refused s → (s .number ≡ 15 → ⊥) → ⊥
+        other s g h = let z : r ≡ s = cc in h (ap (λ (x : Refusal). x .number) (sym z) ∙ f)
+
+        go : (x : ChartRead) → readChart chart ≡ x → ⊥
+        go (Read.Refused s) g = other s (w .chart-refused s g) (λ h. omega (arith, refused chart s g .number-few))
+        go (Read.Chart sh) g = elim (decLe (sh .n * sh .n) (length old)) [ yes l ↦ always-answered chart sh g old new answer l w r e | no k ↦ other (lentRefusal 14) (w .then-too-short sh g (omega arith)) (λ h. omega arith) ]
+
+    -- ---- any two answers, and any two buffers, that the promise allows for the same input are equal, where any two such matrices agree
+
+    module _ (alike : (n m : ℕ) (steps : List Step) (a b : List ℕ) (g h : Matrix) → Says n m steps a g → Says n m steps b h → (g ≡ h) × ((p q : ℕ) → p < n → q < n → getD a (p * n + q) 0 ≡ getD b (p * n + q) 0)) (chart old : List ℕ) where
+      module _ (a b : List ℕ) (s t : MatrixAnswer) (w : MatrixPromise Says R chart old a s) (z : MatrixPromise Says R chart old b t) where
+        refused-alike : (r : Refusal) → s ≡ Answer.Refused r → t ≡ Answer.Refused r → (s ≡ t) × (a ≡ b)
+        refused-alike r e f = (e ∙ sym f, w .refusal-leaves-all r e ∙ sym (z .refusal-leaves-all r f))
+
+      pub matrix-determined : (a b : List ℕ) (s t : MatrixAnswer) → MatrixPromise Says R chart old a s → MatrixPromise Says R chart old b t → (s ≡ t) × (a ≡ b)
+      matrix-determined a b s t w z = go (readChart chart) refl
+        where
+          given : (sh : Shape) → readChart chart ≡ Read.Chart sh → sh .n * sh .n ≤ length old → (s t : MatrixAnswer) → MatrixPromise Says R chart old a s → MatrixPromise Says R chart old b t → (s ≡ t) × (a ≡ b)
+          given sh e l (Answer.Refused r) t w z = absurd (always-answered chart sh e old a _ l w r refl)
+          given sh e l (Answer.Given g) (Answer.Refused r) w z = absurd (always-answered chart sh e old b _ l z r refl)
+          given sh e l (Answer.Given g) (Answer.Given h) w z =
+              let same = alike (sh .n) (sh .m) _ a b g h (w .then-answered sh e l) (z .then-answered sh e l) in
+              let cell : (y : ℕ) → y < sh .n * sh .n → getD a y 0 ≡ getD b y 0 = λ y i. subst (λ (x : ℕ). getD a x 0 ≡ getD b x 0) (pair-cell (sh .n) y) (same .1 _ _ (row-in (sh .n) y i) (column-in (sh .n) y i)) in (
+                ap Answer.Given (same .0),
+                ext-getD 0 a b (w .length-stays ∙ sym (z .length-stays)) (λ y i. elim (decLe (sh .n * sh .n) y) [ yes k ↦ w .later-bytes-stay sh e y k ∙ sym (z .later-bytes-stay sh e y k) | no f ↦ cell y (omega arith) ]),
+              )
+
+          go : (x : ChartRead) → readChart chart ≡ x → (s ≡ t) × (a ≡ b)
+          go (Read.Refused r) e = refused-alike a b s t w z r (w .chart-refused r e) (z .chart-refused r e)
+          go (Read.Chart sh) e = elim (decLe (sh .n * sh .n) (length old)) [ yes l ↦ given sh e l s t w z | no f ↦ refused-alike a b s t w z (lentRefusal 14) (w .then-too-short sh e (omega arith)) (z .then-too-short sh e (omega arith)) ]
+
+-- what is said of two matrices is equal where the states and the rounds are
+pub same-matrix : (n : ℕ) (C : ℕ → Relation) (g h : Matrix) → g .states ≡ n → h .states ≡ n → Rounds (pairs n) C (g .rounds) → Rounds (pairs n) C (h .rounds) → g ≡ h
+same-matrix n C g h e f r s = ap₂ (λ (x y : ℕ). record { states = x; rounds = y }) (e ∙ sym f) (rounds-unique _ _ _ _ r s)

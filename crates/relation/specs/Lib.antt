@@ -1,0 +1,4 @@
+pub mod Sources
+pub mod Held
+pub mod Promise
+pub mod Working
