@@ -1,0 +1,2 @@
+pub mod Simulating
+pub mod Promise

@@ -1,0 +1,59 @@
+use borrow.Author.Needs.{needs}
+use native.Mathlib.Omega.{arith}
+use mathlib.Core.Path.{sym, _∙_}
+use Rattle.chart.proofs.Accepted.{accepted}
+use Rattle.relation.proofs.Cells.{cells-few}
+use Rattle.relation.proofs.Ranges.{stands-chart}
+use Rattle.relation.proofs.Promise.{promise-chart, promise-short, promise-worked}
+use Rattle.simulation.proofs.Promise.{simulation-of}
+use Rattle.simulation.proofs.simulation.Statement.{statement}
+use Rattle.simulation.proofs.simulation.Tie as tie
+
+read-chart-requires : tie.Need-read-chart-requires
+read-chart-requires c κs = search needs
+
+enum-known-r : tie.Need-enum-known-r
+enum-known-r c = search needs
+
+returns : tie.Need-returns
+returns c = promise-chart (c .before .before .before .before .before .before .args .chart .now) (c .before .before .before .before .before .before .args .buffer .now) _ (sym (c .before .before .before .read-chart .ensures) ∙ c .before .r .given .1)
+
+enum-known-s : tie.Need-enum-known-s
+enum-known-s c = search needs
+
+mul-if1 : tie.Need-mul-if1
+mul-if1 c = omega (arith, cells-few _ (accepted (c .before .before .before .before .before .before .args .chart .now) (c .before .s .given .0 .0) (sym (c .before .before .before .read-chart .ensures) ∙ c .before .s .given .1) .states-few))
+
+returns-2 : tie.Need-returns-2
+returns-2 c = promise-short (c .before .before .before .before .before .before .before .args .chart .now) (c .before .before .s .given .0 .0) (sym (c .before .before .before .before .read-chart .ensures) ∙ c .before .before .s .given .1) (c .before .before .before .before .before .before .before .args .buffer .now) (c .if1 .taken)
+
+add-work-out : tie.Need-add-work-out
+add-work-out c = omega (arith, accepted (c .before .before .before .before .before .before .before .args .chart .now) (c .before .before .s .given .0 .0) (sym (c .before .before .before .before .read-chart .ensures) ∙ c .before .before .s .given .1) .states-few)
+
+add-work-out-2 : tie.Need-add-work-out-2
+add-work-out-2 c = let a = accepted (c .before .before .before .before .before .before .before .before .args .chart .now) (c .before .before .before .s .given .0 .0) (sym (c .before .before .before .before .before .read-chart .ensures) ∙ c .before .before .before .s .given .1) in omega (arith, a .states-few, a .actions-few)
+
+work-out-requires : tie.Need-work-out-requires
+work-out-requires c κs = let a = accepted (c .before .before .before .before .before .before .before .before .before .args .chart .now) (c .before .before .before .before .s .given .0 .0) (sym (c .before .before .before .before .before .before .read-chart .ensures) ∙ c .before .before .before .before .s .given .1) in (stands-chart _ _ a, (a .states-some, c .before .before .if1 .left))
+
+same-length : tie.Need-same-length
+same-length c = search needs
+
+returns-3 : tie.Need-returns-3
+returns-3 c = promise-worked (c .before .before .before .before .before .before .before .before .before .before .before .before .args .chart .now) (c .before .before .before .before .before .before .before .s .given .0 .0) (sym (c .before .before .before .before .before .before .before .before .before .read-chart .ensures) ∙ c .before .before .before .before .before .before .before .s .given .1) (c .before .before .before .before .before .before .before .before .before .before .before .before .args .buffer .now) _ _ (c .before .before .before .before .before .if1 .left) (c .before .before .work-out .ensures) (λ given some targets w. simulation-of _ _ targets w)
+
+pub simulation-spec : {M : Type 1} → statement M
+simulation-spec =
+    tie.close
+    (tie.spec
+    read-chart-requires
+    enum-known-r
+    returns
+    enum-known-s
+    mul-if1
+    returns-2
+    add-work-out
+    add-work-out-2
+    work-out-requires
+    same-length
+    returns-3)
