@@ -1,0 +1,5 @@
+pub mod Meaning
+pub mod Pieces
+pub mod Promise
+pub mod ReadBack
+pub mod Scan

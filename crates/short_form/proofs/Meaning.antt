@@ -1,0 +1,168 @@
+-- What the short forms mean, in 001's words. Assumes nothing.
+use mathlib.Core.Path.{_≡_, refl, sym, ap, subst, fun-ext, _∙_}
+use mathlib.Core.Bool.{Bool, So}
+use mathlib.Core.List.{List, List·Memᴰ as Mem}
+use mathlib.Core.Logic.{_⊎_, inl, inr, _↔_, ⊎-elim}
+use Prim.Native.Nat.{ℕ, zero, suc, _<_}
+use lib.Dec.{eqb}
+use borrow.Author.Tests.{eqb-true, eq-eqb}
+use Rattle.settle.specs.Test.{some, each}
+use Rattle.settle.specs.Finite.{below}
+use Rattle.settle.specs.Chain.{Inside, empty, full, chain, Settled}
+use Rattle.settle.proofs.Test.{never, stable, both-i, both-e, either-l, either-r, either-e, some-i, some-e, each-i, each-e, each-n}
+use Rattle.settle.proofs.Finite.{below-i}
+use Rattle.chart.specs.Chart.{Step, Chart, states, actions}
+use Rattle.chart.specs.Layout.{StepIn}
+use Rattle.sheet.specs.Formula.{every, Formula, variable, top, bottom, and, or, diamond, box, variableFree}
+use Rattle.sheet.specs.Meaning.{someLabel, everyLabel, holds}
+use Rattle.sheet.specs.Solution.{applied, Satisfies, applications}
+use Rattle.sheet.proofs.Meaning.{some-every, every-every}
+use Rattle.sheet.proofs.Solution.{sheet-rounds, satisfies-iff}
+use Rattle.short_form.specs.ShortForm.{always, possible, safePath, eventually, kindWritten}
+use Rattle.short_form.specs.Reachable.{Reachable, stay, onward, Moves, Stuck, Goes, Run}
+
+-- a formula without variable means the same whatever set stands for the variable
+pub free-same : (m : ℕ) (steps : List Step) (f : Formula) → So (variableFree f) → (T U : ℕ → Bool) (s : ℕ) → holds m steps f T s ≡ holds m steps f U s
+unfolding holds variableFree
+free-same m steps variable v T U s = never v
+free-same m steps top v T U s = refl
+free-same m steps bottom v T U s = refl
+free-same m steps (and f g) v T U s = let e = both-e _ _ v in rw (free-same m steps f (e .0) T U s, free-same m steps g (e .1) T U s)
+free-same m steps (or f g) v T U s = let e = both-e _ _ v in rw (free-same m steps f (e .0) T U s, free-same m steps g (e .1) T U s)
+free-same m steps (diamond l f) v T U s = ap (λ (P : ℕ → Bool). someLabel m steps l P s) (fun-ext (free-same m steps f v T U))
+free-same m steps (box l f) v T U s = ap (λ (P : ℕ → Bool). everyLabel m steps l P s) (fun-ext (free-same m steps f v T U))
+
+-- where each kept state has a next, there is a run through kept states
+module _ (steps : List Step) (Kept : ℕ → Type 0) (next : (u : ℕ) → Kept u → (v : ℕ) × Kept v × Goes steps u v) (s : ℕ) (kept : Kept s) where
+  walk : ℕ → (u : ℕ) × Kept u
+  walk zero = (s, kept)
+  walk (suc k) = let x = walk k in let y = next (x .0) (x .1) in (y .0, y .1)
+
+  run-through : (at : ℕ → ℕ) × Run steps s at × ((k : ℕ) → Kept (at k))
+  unfolding walk
+  run-through = (λ k. walk k .0, record { starts = refl; goes = λ k. next (walk k .0) (walk k .1) .2 }, λ k. walk k .1)
+
+module _ (c : Chart) (steps-in : (t : Step) → Mem t (c .steps) → StepIn (states c) (actions c) t) where
+  -- ---- every action: any step at all
+
+  module _ (P : ℕ → Bool) (s : ℕ) where
+    some-is : someLabel (actions c) (c .steps) every P s ≡ some (λ t. eqb (t .source) s) (λ t. P (t .target)) (c .steps)
+    some-is = some-every (actions c) (c .steps) P s (λ t i. steps-in t i .action-in)
+
+    each-is : everyLabel (actions c) (c .steps) every P s ≡ each (λ t. eqb (t .source) s) (λ t. P (t .target)) (c .steps)
+    each-is = every-every (actions c) (c .steps) P s (λ t i. steps-in t i .action-in)
+
+    diamond-i : (t : Step) → Mem t (c .steps) → t .source ≡ s → So (P (t .target)) → So (someLabel (actions c) (c .steps) every P s)
+    diamond-i t i e h = some-is ∙ some-i _ _ i (eq-eqb _ _ e) h
+
+    diamond-e : So (someLabel (actions c) (c .steps) every P s) → (t : Step) × Mem t (c .steps) × (t .source ≡ s) × So (P (t .target))
+    diamond-e h = let r = some-e _ _ _ (sym some-is ∙ h) in (r .0, r .1, eqb-true _ _ (r .2), r .3)
+
+    box-i : ((t : Step) → Mem t (c .steps) → t .source ≡ s → So (P (t .target))) → So (everyLabel (actions c) (c .steps) every P s)
+    box-i f = each-is ∙ each-i _ _ _ (λ t i e. f t i (eqb-true _ _ e))
+
+    box-e : So (everyLabel (actions c) (c .steps) every P s) → (t : Step) → Mem t (c .steps) → t .source ≡ s → So (P (t .target))
+    box-e h t i e = each-e _ _ (sym each-is ∙ h) i (eq-eqb _ _ e)
+
+    box-n : (So (everyLabel (actions c) (c .steps) every P s) → ⊥) → (t : Step) × Mem t (c .steps) × (t .source ≡ s) × (So (P (t .target)) → ⊥)
+    box-n f = let r = each-n _ _ _ (λ h. f (each-is ∙ h)) in (r .0, r .1, eqb-true _ _ (r .2), r .3)
+
+  -- ---- a sheet's solution is the last of its rounds
+
+  module _ (kind : ℕ) (g : Formula) where
+    settles : ℕ
+    settles = sheet-rounds c (λ t i. steps-in t i .target-in) g kind .0
+
+    settled : Settled (below (states c)) (applications c kind g) settles
+    unfolding settles
+    settled = sheet-rounds c (λ t i. steps-in t i .target-in) g kind .2 .0
+
+    last-round : (s : ℕ) → s < states c → So (applications c kind g settles s) ↔ Satisfies c kind g s
+    last-round s h = satisfies-iff c (λ t i. steps-in t i .target-in) g kind settles settled s h
+
+  -- ---- the forms
+
+  module _ (f : Formula) (free : So (variableFree f)) where
+    -- F holds at a state
+    abbrev pub F : ℕ → Type 0
+    F s = So (holds (actions c) (c .steps) f empty s)
+
+    known : (T : ℕ → Bool) (s : ℕ) → So (holds (actions c) (c .steps) f T s) → F s
+    known T s h = free-same _ _ f free empty T s ∙ h
+
+    given : (T : ℕ → Bool) (s : ℕ) → F s → So (holds (actions c) (c .steps) f T s)
+    given T s h = free-same _ _ f free T empty s ∙ h
+
+    -- F always: it holds at every state that can be reached
+    pub always-means : (s : ℕ) → s < states c → Satisfies c (kindWritten 0) (always f) s ↔ ((u : ℕ) → Reachable (c .steps) s u → F u)
+    unfolding holds chain full
+    always-means s h = (λ r u p. along (r .0) (r .1) p h (r .2), λ all. last-round (kindWritten 0) (always f) s h .0 (lasts (settles (kindWritten 0) (always f)) s all))
+      where
+        along : (T : ℕ → Bool) → Inside (below (states c)) T (applied c (always f) T) → {s u : ℕ} → Reachable (c .steps) s u → s < states c → So (T s) → F u
+        along T inside {s} stay h t = known T s (both-e _ _ (inside s (below-i _ s h) t) .0)
+        along T inside {s} (onward v i e p) h t = along T inside p (steps-in v i .target-in) (box-e _ s (both-e _ _ (inside s (below-i _ s h) t) .1) v i e)
+
+        lasts : (k s : ℕ) → ((u : ℕ) → Reachable (c .steps) s u → F u) → So (chain (applied c (always f)) full k s)
+        lasts zero s all = refl
+        lasts (suc k) s all = both-i (given _ s (all s stay)) (box-i _ s (λ t i e. lasts k (t .target) (λ u p. all u (onward t i e p))))
+
+    -- F possible: it holds at some state that can be reached
+    pub possible-means : (s : ℕ) → s < states c → Satisfies c (kindWritten 1) (possible f) s ↔ ((u : ℕ) × Reachable (c .steps) s u × F u)
+    unfolding holds chain empty
+    possible-means s h = (λ r. found (settles (kindWritten 1) (possible f)) s (last-round (kindWritten 1) (possible f) s h .1 r), λ r T inside. back T inside (r .1) h (r .2))
+      where
+        found : (k s : ℕ) → So (chain (applied c (possible f)) empty k s) → (u : ℕ) × Reachable (c .steps) s u × F u
+        found zero s t = never t
+        found (suc k) s t = elim (either-e _ _ t) [ inl p ↦ (s, stay, known _ s p) | inr p ↦ let d = diamond-e _ s p in let r = found k (d .0 .target) (d .3) in (r .0, onward (d .0) (d .1) (d .2) (r .1), r .2) ]
+
+        back : (T : ℕ → Bool) → Inside (below (states c)) (applied c (possible f) T) T → {s u : ℕ} → Reachable (c .steps) s u → s < states c → F u → So (T s)
+        back T inside {s} stay h t = inside s (below-i _ s h) (either-l _ (given T s t))
+        back T inside {s} (onward v i e p) h t = inside s (below-i _ s h) (either-r _ (diamond-i _ s v i e (back T inside p (steps-in v i .target-in) t)))
+
+    -- a safe path: F holds all along some run
+    pub safe-path-means : (s : ℕ) → s < states c → Satisfies c (kindWritten 2) (safePath f) s ↔ ((at : ℕ → ℕ) × Run (c .steps) s at × ((k : ℕ) → F (at k)))
+    unfolding holds chain full
+    safe-path-means s h = (
+      λ r.
+          let T = r .0 in
+          let w = run-through (c .steps) (λ u. (u < states c) × So (T u)) (λ u p. next T (r .1) u (p .0) (p .1)) s (h, r .2) in
+          (w .0, w .1, λ k. known T (w .0 k) (both-e _ _ (r .1 (w .0 k) (below-i _ _ (w .2 k .0)) (w .2 k .1)) .0)),
+      λ r. last-round (kindWritten 2) (safePath f) s h .0 (subst (λ u. So (chain (applied c (safePath f)) full (settles (kindWritten 2) (safePath f)) u)) (r .1 .starts) (lasts (r .0) (r .1 .goes) (r .2) (settles (kindWritten 2) (safePath f)) 0)),
+    )
+      where
+        next : (T : ℕ → Bool) → Inside (below (states c)) T (applied c (safePath f) T) → (u : ℕ) → u < states c → So (T u)
+            → (v : ℕ) × ((v < states c) × So (T v)) × Goes (c .steps) u v
+        next T inside u h t = elim (either-e _ _ (both-e _ _ (inside u (below-i _ u h) t) .1)) [ inl b ↦ (u, (h, t), inr (λ t i e. never (box-e _ u b t i e), refl)) | inr p ↦ let d = diamond-e _ u p in (d .0 .target, (steps-in _ (d .1) .target-in, d .3), inl (d .0, d .1, d .2, refl)) ]
+
+        lasts : (at : ℕ → ℕ) → ((k : ℕ) → Goes (c .steps) (at k) (at (suc k))) → ((k : ℕ) → F (at k)) → (k j : ℕ) → So (chain (applied c (safePath f)) full k (at j))
+        lasts at goes all zero j = refl
+        lasts at goes all (suc k) j = both-i (given _ (at j) (all j)) (elim (goes j) [ inl t ↦ either-r _ (diamond-i _ (at j) (t .0) (t .1) (t .2) (subst (λ u. So (chain (applied c (safePath f)) full k u)) (sym (t .3)) (lasts at goes all k (suc j)))) | inr p ↦ either-l _ (box-i _ (at j) (λ t i e. absurd (p .0 t i e))) ])
+
+    -- F eventually, in the house form: every run comes to F or is stuck
+    pub eventually-means : (s : ℕ) → s < states c → Satisfies c (kindWritten 3) (eventually f) s ↔ ((at : ℕ → ℕ) → Run (c .steps) s at → (k : ℕ) × (F (at k) ⊎ Stuck (c .steps) (at k)))
+    unfolding holds chain empty
+    eventually-means s h = (
+      λ r at run. comes at (run .goes) rounds 0 (subst (λ u. So (T u)) (sym (run .starts)) (last-round (kindWritten 3) (eventually f) s h .1 r)),
+      λ all. last-round (kindWritten 3) (eventually f) s h .0 (stable _ (λ not.
+          let w = run-through (c .steps) (λ u. (u < states c) × (So (T u) → ⊥)) (λ u p. let n = next u (p .0) (p .1) in (n .0, n .1, inl (n .2))) s (h, not) in
+          let r = all (w .0) (w .1) in
+          let p = w .2 (r .0) in
+          let n = next (w .0 (r .0)) (p .0) (p .1) in
+          ⊎-elim (λ t. p .1 (here _ (p .0) (either-l _ (given T _ t)))) (λ stuck. stuck (n .2 .0) (n .2 .1) (n .2 .2)) (r .1))),
+    )
+      where
+        rounds : ℕ
+        rounds = settles (kindWritten 3) (eventually f)
+
+        T : ℕ → Bool
+        T = chain (applied c (eventually f)) empty rounds
+
+        here : (u : ℕ) → u < states c → So (applied c (eventually f) T u) → So (T u)
+        here u h t = settled (kindWritten 3) (eventually f) u (below-i _ u h) ∙ t
+
+        comes : (at : ℕ → ℕ) → ((k : ℕ) → Goes (c .steps) (at k) (at (suc k))) → (k j : ℕ) → So (chain (applied c (eventually f)) empty k (at j)) → (i : ℕ) × (F (at i) ⊎ Stuck (c .steps) (at i))
+        comes at goes zero j t = never t
+        comes at goes (suc k) j t = elim (either-e _ _ t) [ inl p ↦ (j, inl (known _ (at j) p)) | inr b ↦ elim (goes j) [ inl m ↦ comes at goes k (suc j) (subst (λ u. So (chain (applied c (eventually f)) empty k u)) (m .3) (box-e _ (at j) b (m .0) (m .1) (m .2))) | inr p ↦ (j, inr (p .0)) ] ]
+
+        next : (u : ℕ) → u < states c → (So (T u) → ⊥) → (v : ℕ) × ((v < states c) × (So (T v) → ⊥)) × Moves (c .steps) u v
+        next u h not = let d = box-n T u (λ b. not (here u h (either-r _ b))) in (d .0 .target, (steps-in _ (d .1) .target-in, d .3), (d .0, d .1, d .2, refl))

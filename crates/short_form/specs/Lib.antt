@@ -1,0 +1,4 @@
+pub mod ShortForm
+pub mod Reachable
+pub mod Promise
+pub mod Pieces
