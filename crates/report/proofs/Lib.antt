@@ -1,0 +1,4 @@
+pub mod Laws
+pub mod Longest
+pub mod Printed
+pub mod Promise

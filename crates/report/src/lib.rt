@@ -1,0 +1,152 @@
+// The text that the program prints for a chart's bytes.
+use refusal::Input;
+use refusal::Refusal;
+use relation::MatrixAnswer;
+ghost use mathlib.Core.Path.{_≡_};
+ghost use mathlib.Core.List.{[], _∷_, _++_};
+ghost use Prim.Native.Nat.{_+_, _-_, _*_, _≤_, _<_};
+ghost use lib.ListN.{length};
+ghost use Rattle.refusal.specs.Refusal.{inputNumber};
+ghost use Rattle.marks.specs.Promise.{markAt};
+ghost use Rattle.text.specs.Text.{line, placed};
+ghost use Rattle.report.specs.Text.{refusedText, pairText, rowText, rowsText, chartText};
+ghost use Rattle.report.specs.Promise.{ReportPromise};
+ghost use Rattle.report.specs.Page.{Made};
+
+// The length written, or the refusal.
+pub enum ReportAnswer {
+    Written(usize),
+    Refused(Refusal),
+}
+
+// Room for the marks of 64 states.
+fn matrix_room() -> [u8; 4096]
+    ensures { λ r. ⌜ 4096 ≡ length r ⌝ }
+{
+    [0; 4096]
+}
+
+// Room for the longest text.
+fn page_room() -> [u8; 20480]
+    ensures { λ r. ⌜ 20480 ≡ length r ⌝ }
+{
+    [0; 20480]
+}
+
+fn input_number(input: Input) -> usize
+    ensures { λ r. ⌜ r ≡ inputNumber input ⌝ }
+{
+    match input {
+        Input::Chart => 0,
+        Input::Sheet => 1,
+        Input::BufferOrName => 2,
+    }
+}
+
+// A word, a number and a line feed.
+fn put_count(buffer: &mut [u8], at: usize, word: &[u8], x: usize) -> usize
+    requires { ⌜ at + length (now word ++ line (x ∷ [])) ≤ length (now buffer) ⌝ }
+    ensures { λ r. ⌜ r ≡ at + length (now (word .entry) ++ line (x ∷ [])) ⌝ }
+    ensures { λ r. ⌜ now (buffer .exit) ≡ placed (now (buffer .entry)) at (now (word .entry) ++ line (x ∷ [])) ⌝ }
+{
+    let number = text::put_bytes(buffer, at, word);
+    let end = text::put_number(buffer, number, x);
+    text::put_bytes(buffer, end, b"\n")
+}
+
+// The line of a pair, where its mark is not 0.
+fn put_pair(buffer: &mut [u8], at: usize, p: usize, q: usize, mark: usize) -> usize
+    requires { ⌜ at + length (pairText p q mark) ≤ length (now buffer) ⌝ }
+    ensures { λ r. ⌜ r ≡ at + length (pairText p q mark) ⌝ }
+    ensures { λ r. ⌜ now (buffer .exit) ≡ placed (now (buffer .entry)) at (pairText p q mark) ⌝ }
+{
+    if mark == 0 {
+        return at;
+    }
+    text::put_line(buffer, at, p, q, mark)
+}
+
+// The lines of p with each state above it.
+fn put_row(buffer: &mut [u8], at: usize, matrix: &[u8], n: usize, p: usize) -> usize
+    requires { ⌜ (n ≤ 64) × (p < n) × (n * n ≤ length (now matrix)) ⌝ }
+    requires { ⌜ at + length (rowText (markAt n (now matrix)) p (n - 1 - p)) ≤ length (now buffer) ⌝ }
+    ensures { λ r. ⌜ r ≡ at + length (rowText (markAt n (now (matrix .entry))) p (n - 1 - p)) ⌝ }
+    ensures { λ r. ⌜ now (buffer .exit) ≡ placed (now (buffer .entry)) at (rowText (markAt n (now (matrix .entry))) p (n - 1 - p)) ⌝ }
+{
+    let row = p * n;
+    let above = n - 1 - p;
+    let mut end = at;
+    let mut k: usize = 0;
+    while k < above {
+        let q = p + 1 + k;
+        end = put_pair(buffer, end, p, q, matrix[row + q] as usize);
+        k = k + 1;
+    }
+    end
+}
+
+// The lines of all pairs.
+fn put_rows(buffer: &mut [u8], at: usize, matrix: &[u8], n: usize) -> usize
+    requires { ⌜ (n ≤ 64) × (n * n ≤ length (now matrix)) ⌝ }
+    requires { ⌜ at + length (rowsText (markAt n (now matrix)) n n) ≤ length (now buffer) ⌝ }
+    ensures { λ r. ⌜ r ≡ at + length (rowsText (markAt n (now (matrix .entry))) n n) ⌝ }
+    ensures { λ r. ⌜ now (buffer .exit) ≡ placed (now (buffer .entry)) at (rowsText (markAt n (now (matrix .entry))) n n) ⌝ }
+{
+    let mut end = at;
+    let mut p: usize = 0;
+    while p < n {
+        end = put_row(buffer, end, matrix, n, p);
+        p = p + 1;
+    }
+    end
+}
+
+fn put_chart(buffer: &mut [u8], matrix: &[u8], n: usize, rounds: usize) -> usize
+    requires { ⌜ (n ≤ 64) × (n * n ≤ length (now matrix)) ⌝ }
+    requires { ⌜ length (chartText n rounds (markAt n (now matrix))) ≤ length (now buffer) ⌝ }
+    ensures { λ r. ⌜ r ≡ 0 + length (chartText n rounds (markAt n (now (matrix .entry)))) ⌝ }
+    ensures { λ r. ⌜ now (buffer .exit) ≡ placed (now (buffer .entry)) 0 (chartText n rounds (markAt n (now (matrix .entry)))) ⌝ }
+{
+    let second = put_count(buffer, 0, b"states ", n);
+    let third = put_count(buffer, second, b"rounds ", rounds);
+    put_rows(buffer, third, matrix, n)
+}
+
+fn put_refusal(buffer: &mut [u8], r: Refusal) -> usize
+    requires { ⌜ length (refusedText r) ≤ length (now buffer) ⌝ }
+    ensures { λ s. ⌜ s ≡ 0 + length (refusedText r) ⌝ }
+    ensures { λ s. ⌜ now (buffer .exit) ≡ placed (now (buffer .entry)) 0 (refusedText r) ⌝ }
+{
+    let input = r.input;
+    let at = text::put_bytes(buffer, 0, b"refused ");
+    text::put_line(buffer, at, input_number(input), r.number as usize, r.place)
+}
+
+// The text, in a page that has room for the longest, and its length.
+fn make(chart: &[u8], page: &mut [u8]) -> usize
+    requires { ⌜ 20480 ≤ length (now page) ⌝ }
+    ensures { λ r. ⌜ Made (now (chart .entry)) r (now (page .exit)) ⌝ }
+{
+    let mut matrix = matrix_room();
+    match marks::marks(chart, &mut matrix) {
+        MatrixAnswer::Refused(r) => put_refusal(page, r),
+        MatrixAnswer::Given(given) => put_chart(page, &matrix, given.states, given.rounds),
+    }
+}
+
+// The report on a chart's bytes, in the start of the lent buffer.
+pub fn report(chart: &[u8], buffer: &mut [u8]) -> ReportAnswer
+    ensures { λ r. ⌜ ReportPromise (now (chart .entry)) (now (buffer .entry)) (now (buffer .exit)) r ⌝ }
+{
+    let mut page = page_room();
+    let size = make(chart, &mut page);
+    if buffer.len() < size {
+        return ReportAnswer::Refused(Refusal {
+            input: Input::BufferOrName,
+            number: 14,
+            place: 0,
+        });
+    }
+    text::put_bytes(buffer, 0, &page[..size]);
+    ReportAnswer::Written(size)
+}
