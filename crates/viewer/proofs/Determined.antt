@@ -1,0 +1,48 @@
+-- Any two results that a call's promise allows for the same input agree: the code, every lent number and every lent byte. Assumes nothing.
+use Prim.Native.Nat.{ℕ}
+use mathlib.Core.Path.{_≡_, ap, sym, _∙_}
+use mathlib.Core.List.{List}
+use Rattle.relation.specs.declared.MatrixAnswer.{MatrixAnswer}
+use Rattle.marks.proofs.Promise.{marks-determined}
+use Rattle.simulation.proofs.Promise.{simulation-determined}
+use Rattle.property.proofs.Promise.{property-determined}
+use Rattle.short_form.proofs.Promise.{short-form-determined}
+use Rattle.viewer.specs.Shown.{lent, matrixCode, matrixStates, matrixRounds, MatrixShown, MarksShown, SimulationShown, propertyCode, wordLeft, countLeft, roundsLeft, PropertyShown, formCode, writtenLeft, ShortFormShown}
+
+-- what follows from equal answers
+along : {A : Type 0} (f : A → ℕ) {x y : A} {m n : ℕ} → x ≡ y → m ≡ f x → n ≡ f y → m ≡ n
+along f e p q = p ∙ ap f e ∙ sym q
+
+-- where the promise leaves no choice
+matrix-shown-determined : {Promise : List ℕ → List ℕ → List ℕ → MatrixAnswer → Type 0}
+    → ((chart old a b : List ℕ) (s t : MatrixAnswer) → Promise chart old a s → Promise chart old b t → (s ≡ t) × (a ≡ b))
+    → (chart old a b : List ℕ) (s s₁ s₂ r r₁ r₂ c₁ c₂ : ℕ)
+    → MatrixShown Promise chart old a (lent s s₁) (lent r r₁) c₁ → MatrixShown Promise chart old b (lent s s₂) (lent r r₂) c₂
+    → (a ≡ b) × (c₁ ≡ c₂) × (s₁ ≡ s₂) × (r₁ ≡ r₂)
+matrix-shown-determined determined chart old a b s s₁ s₂ r r₁ r₂ c₁ c₂ x y =
+    let e = determined chart old a b _ _ (x .promised) (y .promised) in
+    (e .1, along matrixCode (e .0) (x .code-is) (y .code-is), along (matrixStates s) (e .0) (x .states-is) (y .states-is), along (matrixRounds r) (e .0) (x .rounds-is) (y .rounds-is))
+
+pub marks-shown-determined : (chart old a b : List ℕ) (s s₁ s₂ r r₁ r₂ c₁ c₂ : ℕ)
+    → MarksShown chart old a (lent s s₁) (lent r r₁) c₁ → MarksShown chart old b (lent s s₂) (lent r r₂) c₂
+    → (a ≡ b) × (c₁ ≡ c₂) × (s₁ ≡ s₂) × (r₁ ≡ r₂)
+marks-shown-determined = matrix-shown-determined marks-determined
+
+pub simulation-shown-determined : (chart old a b : List ℕ) (s s₁ s₂ r r₁ r₂ c₁ c₂ : ℕ)
+    → SimulationShown chart old a (lent s s₁) (lent r r₁) c₁ → SimulationShown chart old b (lent s s₂) (lent r r₂) c₂
+    → (a ≡ b) × (c₁ ≡ c₂) × (s₁ ≡ s₂) × (r₁ ≡ r₂)
+simulation-shown-determined = matrix-shown-determined simulation-determined
+
+pub property-shown-determined : (chart sheet : List ℕ) (w w₁ w₂ n n₁ n₂ r r₁ r₂ c₁ c₂ : ℕ)
+    → PropertyShown chart sheet (lent w w₁) (lent n n₁) (lent r r₁) c₁ → PropertyShown chart sheet (lent w w₂) (lent n n₂) (lent r r₂) c₂
+    → (c₁ ≡ c₂) × (w₁ ≡ w₂) × (n₁ ≡ n₂) × (r₁ ≡ r₂)
+property-shown-determined chart sheet w w₁ w₂ n n₁ n₂ r r₁ r₂ c₁ c₂ x y =
+    let e = property-determined chart sheet _ _ (x .promised) (y .promised) in
+    (along propertyCode e (x .code-is) (y .code-is), along (wordLeft w) e (x .word-is) (y .word-is), along (countLeft n) e (x .count-is) (y .count-is), along (roundsLeft r) e (x .rounds-is) (y .rounds-is))
+
+pub short-form-shown-determined : (chart sheet : List ℕ) (name : ℕ) (old a b : List ℕ) (w w₁ w₂ c₁ c₂ : ℕ)
+    → ShortFormShown chart sheet name old a (lent w w₁) c₁ → ShortFormShown chart sheet name old b (lent w w₂) c₂
+    → (a ≡ b) × (c₁ ≡ c₂) × (w₁ ≡ w₂)
+short-form-shown-determined chart sheet name old a b w w₁ w₂ c₁ c₂ x y =
+    let e = short-form-determined chart sheet name old (x .promised) (y .promised) in
+    (e .1, along formCode (e .0) (x .code-is) (y .code-is), along (writtenLeft w) (e .0) (x .written-is) (y .written-is))

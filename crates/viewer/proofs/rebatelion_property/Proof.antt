@@ -1,0 +1,37 @@
+use borrow.Author.Needs.{needs}
+use Rattle.viewer.proofs.Places.{property-place}
+use Rattle.viewer.proofs.rebatelion_property.Statement.{statement}
+use Rattle.viewer.proofs.rebatelion_property.Tie as tie
+
+property-requires : tie.Need-property-requires
+property-requires c κs = search needs
+
+enum-known-answer : tie.Need-enum-known-answer
+enum-known-answer c = search needs
+
+cast-count : tie.Need-cast-count
+cast-count c = search needs
+
+enum-known-answer-2 : tie.Need-enum-known-answer-2
+enum-known-answer-2 c = search needs
+
+pack-requires : tie.Need-pack-requires
+pack-requires c κs = property-place _ _ _ (rw (c .before .answer2 .given .1) at (c .before .before .before .property .ensures))
+
+returns : tie.Need-returns
+returns c = record { answer = c .before .before .before .before .property .result; promised = c .before .before .before .before .property .ensures; code-is = rw (c .before .before .answer .given .1); word-is = rw (c .before .before .answer .given .1); count-is = rw (c .before .before .answer .given .1); rounds-is = rw (c .before .before .answer .given .1) }
+
+returns-2 : tie.Need-returns-2
+returns-2 c = record { answer = c .before .before .before .before .property .result; promised = c .before .before .before .before .property .ensures; code-is = rw (c .before .before .answer2 .given .1) (c .pack .ensures); word-is = rw (c .before .before .answer2 .given .1); count-is = rw (c .before .before .answer2 .given .1); rounds-is = rw (c .before .before .answer2 .given .1) }
+
+pub rebatelion-property-spec : {M : Type 1} → statement M
+rebatelion-property-spec =
+    tie.close
+    (tie.spec
+    property-requires
+    enum-known-answer
+    cast-count
+    enum-known-answer-2
+    pack-requires
+    returns
+    returns-2)

@@ -1,0 +1,41 @@
+use borrow.Author.Needs.{needs}
+use Rattle.viewer.proofs.Places.{short-form-place}
+use Rattle.viewer.proofs.rebatelion_short_form.Statement.{statement}
+use Rattle.viewer.proofs.rebatelion_short_form.Tie as tie
+
+short-form-requires : tie.Need-short-form-requires
+short-form-requires c κs = search needs
+
+enum-known-answer : tie.Need-enum-known-answer
+enum-known-answer c = search needs
+
+enum-known-answer-2 : tie.Need-enum-known-answer-2
+enum-known-answer-2 c = search needs
+
+pack-requires : tie.Need-pack-requires
+pack-requires c κs = short-form-place _ _ _ _ _ _ (rw (c .before .answer2 .given .1) at (c .before .before .before .before .before .short-form .ensures))
+
+same-length : tie.Need-same-length
+same-length c = search needs
+
+returns : tie.Need-returns
+returns c = record { answer = c .before .before .before .before .before .short-form .result; promised = c .before .before .before .before .before .short-form .ensures; code-is = rw (c .before .answer .given .1); written-is = rw (c .before .answer .given .1) }
+
+same-length-2 : tie.Need-same-length-2
+same-length-2 c = search needs
+
+returns-2 : tie.Need-returns-2
+returns-2 c = record { answer = c .before .before .before .before .before .before .short-form .result; promised = c .before .before .before .before .before .before .short-form .ensures; code-is = rw (c .before .before .answer2 .given .1) (c .pack .ensures); written-is = rw (c .before .before .answer2 .given .1) }
+
+pub rebatelion-short-form-spec : {M : Type 1} → statement M
+rebatelion-short-form-spec =
+    tie.close
+    (tie.spec
+    short-form-requires
+    enum-known-answer
+    enum-known-answer-2
+    pack-requires
+    same-length
+    returns
+    same-length-2
+    returns-2)

@@ -1,0 +1,41 @@
+use borrow.Author.Needs.{needs}
+use Rattle.viewer.proofs.Places.{matrix-place}
+use Rattle.viewer.proofs.rebatelion_simulation.Statement.{statement}
+use Rattle.viewer.proofs.rebatelion_simulation.Tie as tie
+
+simulation-requires : tie.Need-simulation-requires
+simulation-requires c κs = search needs
+
+enum-known-answer : tie.Need-enum-known-answer
+enum-known-answer c = search needs
+
+enum-known-answer-2 : tie.Need-enum-known-answer-2
+enum-known-answer-2 c = search needs
+
+pack-requires : tie.Need-pack-requires
+pack-requires c κs = matrix-place _ _ _ _ (rw (c .before .answer2 .given .1) at (c .before .before .before .before .before .simulation .ensures))
+
+same-length : tie.Need-same-length
+same-length c = search needs
+
+returns : tie.Need-returns
+returns c = record { answer = c .before .before .before .before .before .simulation .result; promised = c .before .before .before .before .before .simulation .ensures; code-is = rw (c .before .answer .given .1); states-is = rw (c .before .answer .given .1); rounds-is = rw (c .before .answer .given .1) }
+
+same-length-2 : tie.Need-same-length-2
+same-length-2 c = search needs
+
+returns-2 : tie.Need-returns-2
+returns-2 c = record { answer = c .before .before .before .before .before .before .simulation .result; promised = c .before .before .before .before .before .before .simulation .ensures; code-is = rw (c .before .before .answer2 .given .1) (c .pack .ensures); states-is = rw (c .before .before .answer2 .given .1); rounds-is = rw (c .before .before .answer2 .given .1) }
+
+pub rebatelion-simulation-spec : {M : Type 1} → statement M
+rebatelion-simulation-spec =
+    tie.close
+    (tie.spec
+    simulation-requires
+    enum-known-answer
+    enum-known-answer-2
+    pack-requires
+    same-length
+    returns
+    same-length-2
+    returns-2)

@@ -1,0 +1,94 @@
+-- What each call from C leaves: the code, 0 where the question was answered; each lent number, written only then; the lent bytes, as the question
+-- promises of them.
+use Prim.Native.Nat.{ℕ}
+use mathlib.Core.Path.{_≡_}
+use mathlib.Core.List.{List}
+use Rattle.relation.specs.declared.MatrixAnswer.{MatrixAnswer}
+use Rattle.relation.specs.declared.MatrixAnswer.the-variants as Matrices
+use Rattle.marks.specs.Promise.{MarksPromise}
+use Rattle.simulation.specs.Promise.{SimulationPromise}
+use Rattle.property.specs.Promise.{PropertyPromise}
+use Rattle.property.specs.declared.PropertyAnswer.{PropertyAnswer}
+use Rattle.property.specs.declared.PropertyAnswer.the-variants as Property
+use Rattle.short_form.specs.Promise.{ShortFormPromise}
+use Rattle.short_form.specs.declared.ShortFormAnswer.{ShortFormAnswer}
+use Rattle.short_form.specs.declared.ShortFormAnswer.the-variants as Form
+use Rattle.viewer.specs.Packing.{packed}
+
+-- a lent number before and after a call
+pub record Lent : Type 0 where
+  pub before : ℕ
+  pub after : ℕ
+
+abbrev pub lent : ℕ → ℕ → Lent
+lent old new = record { before = old; after = new }
+
+-- ---- marks and simulation: the code, the number of states and the rounds of a matrix
+
+abbrev pub matrixCode : MatrixAnswer → ℕ
+matrixCode (Matrices.Given given) = 0
+matrixCode (Matrices.Refused r) = packed r
+
+abbrev pub matrixStates : ℕ → MatrixAnswer → ℕ
+matrixStates old (Matrices.Given given) = given .states
+matrixStates old (Matrices.Refused r) = old
+
+abbrev pub matrixRounds : ℕ → MatrixAnswer → ℕ
+matrixRounds old (Matrices.Given given) = given .rounds
+matrixRounds old (Matrices.Refused r) = old
+
+-- Promise is what the question promises of the chart, the lent bytes before and after, and the answer
+pub record MatrixShown (Promise : List ℕ → List ℕ → List ℕ → MatrixAnswer → Type 0) (chart old new : List ℕ) (states rounds : Lent) (code : ℕ) : Type 0 where
+  pub answer : MatrixAnswer
+  pub promised : Promise chart old new answer
+  pub code-is : code ≡ matrixCode answer
+  pub states-is : states .after ≡ matrixStates (states .before) answer
+  pub rounds-is : rounds .after ≡ matrixRounds (rounds .before) answer
+
+abbrev pub MarksShown : List ℕ → List ℕ → List ℕ → Lent → Lent → ℕ → Type 0
+MarksShown = MatrixShown MarksPromise
+
+abbrev pub SimulationShown : List ℕ → List ℕ → List ℕ → Lent → Lent → ℕ → Type 0
+SimulationShown = MatrixShown SimulationPromise
+
+-- ---- property
+
+abbrev pub propertyCode : PropertyAnswer → ℕ
+propertyCode (Property.Satisfied a) = 0
+propertyCode (Property.Refused r) = packed r
+
+abbrev pub wordLeft : ℕ → PropertyAnswer → ℕ
+wordLeft old (Property.Satisfied a) = a .word
+wordLeft old (Property.Refused r) = old
+
+abbrev pub countLeft : ℕ → PropertyAnswer → ℕ
+countLeft old (Property.Satisfied a) = a .count
+countLeft old (Property.Refused r) = old
+
+abbrev pub roundsLeft : ℕ → PropertyAnswer → ℕ
+roundsLeft old (Property.Satisfied a) = a .rounds
+roundsLeft old (Property.Refused r) = old
+
+pub record PropertyShown (chart sheet : List ℕ) (word count rounds : Lent) (code : ℕ) : Type 0 where
+  pub answer : PropertyAnswer
+  pub promised : PropertyPromise chart sheet answer
+  pub code-is : code ≡ propertyCode answer
+  pub word-is : word .after ≡ wordLeft (word .before) answer
+  pub count-is : count .after ≡ countLeft (count .before) answer
+  pub rounds-is : rounds .after ≡ roundsLeft (rounds .before) answer
+
+-- ---- short form
+
+abbrev pub formCode : ShortFormAnswer → ℕ
+formCode (Form.Written length) = 0
+formCode (Form.Refused r) = packed r
+
+abbrev pub writtenLeft : ℕ → ShortFormAnswer → ℕ
+writtenLeft old (Form.Written length) = length
+writtenLeft old (Form.Refused r) = old
+
+pub record ShortFormShown (chart sheet : List ℕ) (name : ℕ) (old new : List ℕ) (written : Lent) (code : ℕ) : Type 0 where
+  pub answer : ShortFormAnswer
+  pub promised : ShortFormPromise chart sheet name old new answer
+  pub code-is : code ≡ formCode answer
+  pub written-is : written .after ≡ writtenLeft (written .before) answer

@@ -1,0 +1,117 @@
+// The questions for the C viewer, on byte slices and numbers. Each call answers 0, or the refusal as number | input << 8 | place << 16; the lent
+// numbers and bytes are written only where it answers 0.
+use property::PropertyAnswer;
+use refusal::Input;
+use refusal::Refusal;
+use relation::MatrixAnswer;
+use short_form::ShortFormAnswer;
+ghost use mathlib.Core.Path.{_≡_};
+ghost use Prim.Native.Nat.{_≤_};
+ghost use Rattle.refusal.specs.Refusal.{inputNumber};
+ghost use Rattle.viewer.specs.Packing.{packed};
+ghost use Rattle.viewer.specs.Shown.{lent, MarksShown, PropertyShown, ShortFormShown, SimulationShown};
+
+fn input_number(input: Input) -> u64
+    ensures { λ r. ⌜ r ≡ inputNumber input ⌝ }
+{
+    match input {
+        Input::Chart => 0,
+        Input::Sheet => 1,
+        Input::BufferOrName => 2,
+    }
+}
+
+// Places are small: at most 3,172 in a chart and 403 in a sheet.
+fn pack(refusal: Refusal) -> u64
+    requires { ⌜ refusal .place ≤ 3172 ⌝ }
+    ensures { λ r. ⌜ r ≡ packed refusal ⌝ }
+{
+    let input = refusal.input;
+    refusal.number as u64 + 256 * input_number(input) + 65536 * (refusal.place as u64)
+}
+
+// The marks of all pairs, in the buffer; the number of states and the rounds.
+#[no_mangle]
+pub extern "C" fn rebatelion_marks(
+    chart: &[u8],
+    buffer: &mut [u8],
+    states: &mut u64,
+    rounds: &mut u64,
+) -> u64
+    ensures { λ r. ⌜ MarksShown (now (chart .entry)) (now (buffer .entry)) (now (buffer .exit)) (lent (now (states .entry)) (now (states .exit))) (lent (now (rounds .entry)) (now (rounds .exit))) r ⌝ }
+{
+    let answer = marks::marks(chart, buffer);
+    match answer {
+        MatrixAnswer::Given(matrix) => {
+            *states = matrix.states as u64;
+            *rounds = matrix.rounds as u64;
+            0
+        }
+        MatrixAnswer::Refused(r) => pack(r),
+    }
+}
+
+// The largest simulation, in the buffer; the number of states and the rounds.
+#[no_mangle]
+pub extern "C" fn rebatelion_simulation(
+    chart: &[u8],
+    buffer: &mut [u8],
+    states: &mut u64,
+    rounds: &mut u64,
+) -> u64
+    ensures { λ r. ⌜ SimulationShown (now (chart .entry)) (now (buffer .entry)) (now (buffer .exit)) (lent (now (states .entry)) (now (states .exit))) (lent (now (rounds .entry)) (now (rounds .exit))) r ⌝ }
+{
+    let answer = simulation::simulation(chart, buffer);
+    match answer {
+        MatrixAnswer::Given(held) => {
+            *states = held.states as u64;
+            *rounds = held.rounds as u64;
+            0
+        }
+        MatrixAnswer::Refused(r) => pack(r),
+    }
+}
+
+// The states that satisfy the sheet: word, count and rounds.
+#[no_mangle]
+pub extern "C" fn rebatelion_property(
+    chart: &[u8],
+    sheet: &[u8],
+    word: &mut u64,
+    count: &mut u64,
+    rounds: &mut u64,
+) -> u64
+    ensures { λ r. ⌜ PropertyShown (now (chart .entry)) (now (sheet .entry)) (lent (now (word .entry)) (now (word .exit))) (lent (now (count .entry)) (now (count .exit))) (lent (now (rounds .entry)) (now (rounds .exit))) r ⌝ }
+{
+    let answer = property::property(chart, sheet);
+    match answer {
+        PropertyAnswer::Satisfied(solved) => {
+            *word = solved.word;
+            *count = solved.count as u64;
+            *rounds = solved.rounds as u64;
+            0
+        }
+        PropertyAnswer::Refused(r) => pack(r),
+    }
+}
+
+// The sheet of a short form, in the start of the buffer, and its length.
+#[no_mangle]
+pub extern "C" fn rebatelion_short_form(
+    chart: &[u8],
+    sheet: &[u8],
+    name: u64,
+    buffer: &mut [u8],
+    written: &mut u64,
+) -> u64
+    ensures { λ r. ⌜ ShortFormShown (now (chart .entry)) (now (sheet .entry)) name (now (buffer .entry)) (now (buffer .exit)) (lent (now (written .entry)) (now (written .exit))) r ⌝ }
+{
+    let answer = short_form::short_form(chart, sheet, name, buffer);
+    match answer {
+        ShortFormAnswer::Written(length) => {
+            *written = length as u64;
+            0
+        }
+        ShortFormAnswer::Refused(r) => pack(r),
+    }
+}
