@@ -1,0 +1,25 @@
+-- What a board says of a reader's answer: refused with this number at this place, or accepted with these counts.
+use Prim.Native.Nat.{ℕ}
+use mathlib.Core.Bool.{Bool, false}
+use lib.Dec.{eqb}
+use Rattle.refusal.specs.Refusal.{pick}
+use Rattle.chart.specs.declared.ChartRead.{ChartRead}
+use Rattle.chart.specs.declared.ChartRead.the-variants as Chart
+use Rattle.sheet.specs.declared.SheetRead.{SheetRead}
+use Rattle.sheet.specs.declared.SheetRead.the-variants as Sheet
+
+abbrev pub chartAccepted : ℕ → ℕ → ℕ → ChartRead → Bool
+chartAccepted n m t (Chart.Chart sh) = pick (eqb (sh .n) n) (pick (eqb (sh .m) m) (eqb (sh .t) t) false) false
+chartAccepted n m t (Chart.Refused r) = false
+
+abbrev pub chartRefused : ℕ → ℕ → ChartRead → Bool
+chartRefused number place (Chart.Chart sh) = false
+chartRefused number place (Chart.Refused r) = pick (eqb (r .number) number) (eqb (r .place) place) false
+
+abbrev pub sheetRefused : ℕ → ℕ → SheetRead → Bool
+sheetRefused number place (Sheet.Sheet o) = false
+sheetRefused number place (Sheet.Refused r) = pick (eqb (r .number) number) (eqb (r .place) place) false
+
+abbrev pub sheetAccepted : ℕ → ℕ → SheetRead → Bool
+sheetAccepted kind nodes (Sheet.Sheet o) = pick (eqb (o .kind) kind) (eqb (o .nodes) nodes) false
+sheetAccepted kind nodes (Sheet.Refused r) = false
