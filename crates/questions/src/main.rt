@@ -1,0 +1,203 @@
+// Document 01's boards and edges on the questions, and worked examples of the source documents: what is printed is held to the file stdout.
+use libc::STDOUT_FILENO;
+use property::PropertyAnswer;
+use refusal::Input;
+use refusal::Refusal;
+use relation::MatrixAnswer;
+use short_form::ShortFormAnswer;
+
+fn say(words: &[u8]) {
+    io::write_all(STDOUT_FILENO, words);
+}
+
+fn number(x: u64) {
+    say(b" ");
+    io::print_decimal(STDOUT_FILENO, x);
+}
+
+fn input_number(input: Input) -> u64 {
+    match input {
+        Input::Chart => 0,
+        Input::Sheet => 1,
+        Input::BufferOrName => 2,
+    }
+}
+
+fn refused(r: Refusal) {
+    let input = r.input;
+    say(b"refused");
+    number(input_number(input));
+    number(r.number as u64);
+    number(r.place as u64);
+    say(b"\n");
+}
+
+fn show_property(chart: &[u8], sheet: &[u8]) {
+    let answer = property::property(chart, sheet);
+    match answer {
+        PropertyAnswer::Satisfied(solved) => {
+            say(b"word, states, rounds:");
+            number(solved.word);
+            number(solved.count as u64);
+            number(solved.rounds as u64);
+            say(b"\n");
+        }
+        PropertyAnswer::Refused(r) => refused(r),
+    }
+}
+
+// Row after row, n cells each.
+fn show_cells(cells: &[u8], n: usize) {
+    let mut column: usize = 0;
+    let mut i: usize = 0;
+    while i < cells.len() {
+        number(cells[i] as u64);
+        column = column + 1;
+        if column == n {
+            say(b"\n");
+            column = 0;
+        }
+        i = i + 1;
+    }
+}
+
+fn show_matrix(states: usize, rounds: usize, cells: &[u8]) {
+    say(b"states, rounds:");
+    number(states as u64);
+    number(rounds as u64);
+    say(b"\n");
+    show_cells(cells, states);
+}
+
+fn show_marks(chart: &[u8], cells: &mut [u8]) {
+    let answer = marks::marks(chart, cells);
+    match answer {
+        MatrixAnswer::Given(matrix) => show_matrix(matrix.states, matrix.rounds, cells),
+        MatrixAnswer::Refused(r) => refused(r),
+    }
+}
+
+fn show_simulation(chart: &[u8], cells: &mut [u8]) {
+    let answer = simulation::simulation(chart, cells);
+    match answer {
+        MatrixAnswer::Given(matrix) => show_matrix(matrix.states, matrix.rounds, cells),
+        MatrixAnswer::Refused(r) => refused(r),
+    }
+}
+
+fn properties(e: &[u8], l: &[u8]) {
+    say(
+        b"E, its sheet; L, or (box 0 false) (diamond 0 X), least, greatest; L, and (diamond 0 true) (box 0 X), greatest, least, unsaid\n",
+    );
+    show_property(e, b"\x01\x01\x06\x06\x00\x03\x05\x01\x01\x05\x02\x01");
+    show_property(l, b"\x01\x01\x05\x04\x06\x00\x02\x05\x00\x00");
+    show_property(l, b"\x01\x02\x05\x04\x06\x00\x02\x05\x00\x00");
+    show_property(l, b"\x01\x02\x05\x03\x05\x00\x01\x06\x00\x00");
+    show_property(l, b"\x01\x01\x05\x03\x05\x00\x01\x06\x00\x00");
+    show_property(l, b"\x01\x00\x05\x03\x05\x00\x01\x06\x00\x00");
+    say(b"one state, no action: diamond 255 true, box 255 false\n");
+    show_property(b"\x01\x00\x00\x00\x00", b"\x01\x01\x02\x05\xff\x01");
+    show_property(b"\x01\x00\x00\x00\x00", b"\x01\x01\x02\x06\xff\x02");
+    say(b"the chart's refusal before the sheet's; then the sheet's\n");
+    show_property(b"\x00", b"\x00");
+    show_property(l, b"\x00");
+}
+
+fn all_marks(e: &[u8], l: &[u8]) {
+    let mut six = [7u8; 36];
+    let mut three = [7u8; 9];
+    let mut four = [7u8; 16];
+    let mut five = [7u8; 25];
+    let mut one = [7u8; 1];
+    let mut short = [7u8; 8];
+    let mut long = [7u8; 12];
+    say(b"marks: E, L, 004's Q, 004's P, one state\n");
+    show_marks(e, &mut six);
+    show_marks(l, &mut three);
+    show_marks(
+        b"\x04\x01\x02\x03\x04\x03\x61\x62\x63\x07\x00\x00\x00\x02\x00\x01\x01\x01\x02\x03\x02\x02\x03\x03\x00\x00\x03\x00\x02\x03\x01\x01",
+        &mut four,
+    );
+    show_marks(
+        b"\x05\x01\x02\x03\x04\x05\x01\x61\x06\x00\x00\x00\x01\x01\x00\x00\x02\x00\x01\x02\x00\x03\x03\x00\x02\x03\x00\x04",
+        &mut five,
+    );
+    show_marks(b"\x01\x00\x00\x00\x00", &mut one);
+    say(b"a buffer of one byte less, and of three bytes more\n");
+    show_marks(l, &mut short);
+    show_marks(l, &mut long);
+}
+
+fn all_simulations(e: &[u8], l: &[u8]) {
+    let mut six = [7u8; 36];
+    let mut three = [7u8; 9];
+    let mut one = [7u8; 1];
+    let mut short = [7u8; 8];
+    let mut long = [7u8; 12];
+    say(b"simulation: E, L, one state\n");
+    show_simulation(e, &mut six);
+    show_simulation(l, &mut three);
+    show_simulation(b"\x01\x00\x00\x00\x00", &mut one);
+    say(b"a buffer of one byte less, and of three bytes more\n");
+    show_simulation(l, &mut short);
+    show_simulation(l, &mut long);
+}
+
+// A sheet of so many nodes: diamonds of every action, and at the end true.
+fn deep(nodes: u8) -> [u8; 404] {
+    let mut bytes = [255u8; 404];
+    bytes[0] = 1;
+    bytes[1] = 0;
+    bytes[2] = nodes;
+    let mut i: usize = 0;
+    while i < 200 {
+        bytes[3 + 2 * i] = 5;
+        i = i + 1;
+    }
+    bytes
+}
+
+// The short form of a sheet's first so many bytes, the last of which becomes the formula's end, true.
+fn show_form(l: &[u8], bytes: &mut [u8], length: usize, name: u64) {
+    let mut buffer = [7u8; 404];
+    if length == 0 {
+        return;
+    }
+    if bytes.len() < length {
+        return;
+    }
+    bytes[length - 1] = 1;
+    let answer = short_form::short_form(l, &bytes[..length], name, &mut buffer);
+    match answer {
+        ShortFormAnswer::Written(written) => {
+            say(b"written");
+            number(written as u64);
+            say(b"\n");
+        }
+        ShortFormAnswer::Refused(r) => refused(r),
+    }
+}
+
+fn forms(l: &[u8]) {
+    say(b"short forms of 197 and 198 nodes with name 0; of 194 and 195 with name 2; with name 4\n");
+    let mut most = deep(197);
+    show_form(l, &mut most, 396, 0);
+    let mut above = deep(198);
+    show_form(l, &mut above, 398, 0);
+    let mut path = deep(194);
+    show_form(l, &mut path, 390, 2);
+    let mut longer = deep(195);
+    show_form(l, &mut longer, 392, 2);
+    let mut unnamed = deep(1);
+    show_form(l, &mut unnamed, 4, 4);
+}
+
+fn main() {
+    let e =
+        b"\x06\x01\x02\x03\x04\x05\x06\x03\x0a\x14\x1e\x07\x00\x00\x00\x02\x01\x00\x03\x01\x00\x04\x02\x01\x05\x02\x02\x05\x03\x01\x05\x04\x02\x05";
+    let l = b"\x03\x01\x02\x03\x01\x0a\x03\x00\x00\x00\x00\x01\x00\x01\x01\x00\x02";
+    properties(e, l);
+    all_marks(e, l);
+    all_simulations(e, l);
+    forms(l);
+}
