@@ -1,0 +1,112 @@
+/* Rebatelion for C: questions about mode charts, answered by proved code.
+ *
+ * Link target/staticlib/libviewer.a, which `rt staticlib viewer` makes for x86-64 Linux. It needs nothing but C's own library.
+ *
+ * THE CALLS
+ *
+ * Each call takes a chart file's bytes, answers one question and returns. A call keeps no state, allocates nothing and
+ * always returns, whatever the bytes are; it may be called from several threads at once.
+ *
+ * WHAT IS LENT
+ *
+ * - Inputs (chart, sheet) are a pointer and a length. They are read during the call only and never written.
+ * - A buffer is a pointer and a length. An answer fills its start; the bytes after that stay as they were.
+ * - A number is a pointer to one aligned uint64_t, never null. An answer is written there.
+ * - Everything lent must stay in place until the call returns, and may be freed or reused from then on: no pointer is kept.
+ * - The parts that are lent to one call must not overlap: neither a buffer and an input, nor two numbers, nor a number and
+ *   any other part. No other thread may write to any of them during the call.
+ * - Where a length is 0 the pointer is not used and may be null.
+ *
+ * WHAT IS RETURNED
+ *
+ * 0 where the call answered. Else the call refused, and the value holds why:
+ *
+ *     number | input << 8 | place << 16
+ *
+ * A refused call has written nothing: every buffer and every number is as it was. The macros below take the value apart.
+ *
+ * Input: 0 the chart, 1 the sheet, 2 the buffer or the name. Place: the byte at fault, counted from 0, unless said otherwise.
+ *
+ *      1  a needed byte is absent; place: that input's length
+ *      2  the chart has no state, or more than 64
+ *      3  more than 32 actions
+ *      4  an action code not greater than the one before
+ *      5  more than 1,024 transitions; place: the first byte of their count
+ *      6  a state or an action of a triple out of range
+ *      7  a triple not greater than the one before; place: its first byte
+ *      8  bytes left over; place: the first
+ *      9  the sheet's equation count is not 1, or its kind is above 2
+ *     10  no node, or more than 200, also of a short form's result; place: 2
+ *     11  a node above 6
+ *     12  a node's action byte neither below the action count nor 255
+ *     13  the formula is complete while nodes remain, or the nodes are used up and operands missing; place: where the next
+ *         node would stand
+ *     14  the buffer is too short; place: 0
+ *     15  4,096 rounds done and a further one still changes the answer; place: 0
+ *     16  a short form's F has a variable; place: the first, in the sheet
+ *     17  a short form's name is above 3; place: 0
+ */
+#ifndef REBATELION_H
+#define REBATELION_H
+
+#include <stddef.h>
+#include <stdint.h>
+
+#ifdef __cplusplus
+extern "C" {
+#endif
+
+/* The parts of a refusal. */
+#define REBATELION_NUMBER(refusal) ((unsigned)((refusal) & 0xff))
+#define REBATELION_INPUT(refusal) ((unsigned)((refusal) >> 8 & 0xff))
+#define REBATELION_PLACE(refusal) ((unsigned long)((refusal) >> 16 & 0xffffffff))
+
+/* The longest inputs that are accepted, and buffers that are long enough for every answer. */
+#define REBATELION_MAX_STATES 64
+#define REBATELION_MAX_CHART 3172
+#define REBATELION_MAX_SHEET 402
+#define REBATELION_MATRIX (REBATELION_MAX_STATES * REBATELION_MAX_STATES)
+
+/* The marks of all pairs of states (strong bisimulation).
+ *
+ * Answers n, the number of states, in *states; the rounds in *rounds; and n * n bytes at the start of the buffer. The byte at
+ * p * n + q is 0 where p and q are bisimilar, and else the smallest depth of a formula that holds at one of them and not at
+ * the other, from 1 to n - 1. The mode code of state s stands in chart[1 + s].
+ *
+ * Refuses what is wrong with the chart; then 14 where the buffer has fewer than n * n bytes. */
+uint64_t rebatelion_marks(const uint8_t *chart, size_t chart_len, uint8_t *buffer, size_t buffer_len, uint64_t *states,
+                          uint64_t *rounds);
+
+/* The largest simulation.
+ *
+ * As rebatelion_marks, but the byte at p * n + q is 1 where q simulates p, that is, can match every step of p, and else 0.
+ * The rounds are at most n * n - n. */
+uint64_t rebatelion_simulation(const uint8_t *chart, size_t chart_len, uint8_t *buffer, size_t buffer_len, uint64_t *states,
+                               uint64_t *rounds);
+
+/* The states that satisfy a property sheet, by the solution that its kind asks for: 1 the least, 2 the greatest, and 0, unsaid,
+ * the greatest.
+ *
+ * Answers *word, whose bit s is set where state s satisfies; *count, how many do; and *rounds, the steps until the solution was
+ * reached, at most n.
+ *
+ * Refuses what is wrong with the chart; then what is wrong with the sheet. */
+uint64_t rebatelion_property(const uint8_t *chart, size_t chart_len, const uint8_t *sheet, size_t sheet_len, uint64_t *word,
+                             uint64_t *count, uint64_t *rounds);
+
+/* A property sheet made from a sheet for F, a formula without variable, by one of four short forms.
+ *
+ * Name: 0 always F, 1 possibly F, 2 a safe path (some way to go on as long as the chart does, with F all along), 3 eventually F.
+ * F's own kind is ignored. The sheet fills the start of the buffer, and *written is its length; a buffer of
+ * REBATELION_MAX_SHEET bytes is always long enough. Hand it to rebatelion_property with a chart that has the same actions.
+ *
+ * Refuses what is wrong with the chart; then what is wrong with the sheet; then 16, 17, 10 where the result would have more
+ * than 200 nodes, and 14 where the buffer is shorter than the result. */
+uint64_t rebatelion_short_form(const uint8_t *chart, size_t chart_len, const uint8_t *sheet, size_t sheet_len, uint64_t name,
+                               uint8_t *buffer, size_t buffer_len, uint64_t *written);
+
+#ifdef __cplusplus
+}
+#endif
+
+#endif
