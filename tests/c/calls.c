@@ -1,0 +1,154 @@
+/* Every call of include/rebatelion.h from C: what is answered, what is refused, what stays as it was, and null with length 0. */
+#include "rebatelion.h"
+
+#include <inttypes.h>
+#include <stdio.h>
+#include <string.h>
+
+static int wrong;
+
+static void expect_number(int line, const char *what, uint64_t is, uint64_t expected) {
+    if (is == expected) return;
+    printf("calls.c:%d: %s is %" PRIu64 ", expected %" PRIu64 "\n", line, what, is, expected);
+    wrong = 1;
+}
+
+#define EXPECT(is, expected) expect_number(__LINE__, #is, (uint64_t)(is), (uint64_t)(expected))
+#define EXPECT_BYTES(is, expected, length) expect_number(__LINE__, #is, memcmp(is, expected, length) == 0, 1)
+#define EXPECT_REFUSED(call, input, number, place)                                                                             \
+    do {                                                                                                                       \
+        uint64_t refusal = (call);                                                                                             \
+        EXPECT(REBATELION_INPUT(refusal), input);                                                                              \
+        EXPECT(REBATELION_NUMBER(refusal), number);                                                                            \
+        EXPECT(REBATELION_PLACE(refusal), place);                                                                              \
+        EXPECT(refusal, (uint64_t)(number) | (uint64_t)(input) << 8 | (uint64_t)(place) << 16);                                \
+    } while (0)
+
+static const uint8_t e[] = {6, 1, 2, 3, 4, 5, 6, 3, 10, 20, 30, 7, 0, 0, 0, 2, 1, 0,
+                            3, 1, 0, 4, 2, 1, 5, 2, 2, 5, 3, 1, 5, 4, 2, 5};
+static const uint8_t e_sheet[] = {1, 1, 6, 6, 0, 3, 5, 1, 1, 5, 2, 1};
+static const uint8_t l[] = {3, 1, 2, 3, 1, 10, 3, 0, 0, 0, 0, 1, 0, 1, 1, 0, 2};
+
+/* lent numbers and a lent buffer, with what they hold before a call */
+enum { KEPT = 77, LENT = 50 };
+static uint64_t x, y, z;
+static uint8_t before[LENT], buffer[LENT];
+
+static void fill(void) {
+    x = y = z = KEPT;
+    for (int i = 0; i < LENT; i++) before[i] = buffer[i] = (uint8_t)(200 + i);
+}
+
+/* after a refusal everything is as it was */
+static void expect_kept(int line) {
+    expect_number(line, "first number", x, KEPT);
+    expect_number(line, "second number", y, KEPT);
+    expect_number(line, "third number", z, KEPT);
+    expect_number(line, "buffer kept", memcmp(buffer, before, LENT) == 0, 1);
+    fill();
+}
+#define EXPECT_KEPT() expect_kept(__LINE__)
+
+static void marks(void) {
+    const uint8_t expected[9] = {0, 2, 1, 2, 0, 1, 1, 1, 0};
+    fill();
+    EXPECT(rebatelion_marks(l, sizeof l, buffer, LENT, &x, &y), 0);
+    EXPECT(x, 3);
+    EXPECT(y, 2);
+    EXPECT_BYTES(buffer, expected, 9);
+    EXPECT_BYTES(buffer + 9, before + 9, LENT - 9);
+    fill();
+    EXPECT(rebatelion_marks(e, sizeof e, buffer, 36, &x, &y), 0);
+    EXPECT(x, 6);
+    EXPECT(y, 2);
+    EXPECT(buffer[1], 2);
+    EXPECT(buffer[6], 2);
+    EXPECT(buffer[2], 1);
+
+    fill();
+    EXPECT_REFUSED(rebatelion_marks(e, sizeof e, buffer, 35, &x, &y), 2, 14, 0);
+    EXPECT_KEPT();
+    EXPECT_REFUSED(rebatelion_marks(e, sizeof e, NULL, 0, &x, &y), 2, 14, 0);
+    EXPECT_KEPT();
+    EXPECT_REFUSED(rebatelion_marks(NULL, 0, buffer, LENT, &x, &y), 0, 1, 0);
+    EXPECT_KEPT();
+    EXPECT_REFUSED(rebatelion_marks(NULL, 0, NULL, 0, &x, &y), 0, 1, 0);
+    EXPECT_KEPT();
+    EXPECT_REFUSED(rebatelion_marks(e, sizeof e - 1, buffer, LENT, &x, &y), 0, 1, 33);
+    EXPECT_KEPT();
+}
+
+static void simulation(void) {
+    const uint8_t expected[9] = {1, 1, 0, 1, 1, 0, 1, 1, 1};
+    fill();
+    EXPECT(rebatelion_simulation(l, sizeof l, buffer, LENT, &x, &y), 0);
+    EXPECT(x, 3);
+    EXPECT(y, 1);
+    EXPECT_BYTES(buffer, expected, 9);
+    EXPECT_BYTES(buffer + 9, before + 9, LENT - 9);
+
+    fill();
+    EXPECT_REFUSED(rebatelion_simulation(l, sizeof l, buffer, 8, &x, &y), 2, 14, 0);
+    EXPECT_KEPT();
+    EXPECT_REFUSED(rebatelion_simulation(NULL, 0, NULL, 0, &x, &y), 0, 1, 0);
+    EXPECT_KEPT();
+    EXPECT_REFUSED(rebatelion_simulation(e + 1, sizeof e - 1, buffer, LENT, &x, &y), 0, 5, 6);
+    EXPECT_KEPT();
+}
+
+static void property(void) {
+    const uint8_t kind[] = {1, 3}, node[] = {1, 0, 1, 7}, open[] = {1, 0, 2, 1};
+    fill();
+    EXPECT(rebatelion_property(e, sizeof e, e_sheet, sizeof e_sheet, &x, &y, &z), 0);
+    EXPECT(x, 61);
+    EXPECT(y, 5);
+    EXPECT(z, 1);
+
+    fill();
+    EXPECT_REFUSED(rebatelion_property(NULL, 0, e_sheet, sizeof e_sheet, &x, &y, &z), 0, 1, 0);
+    EXPECT_KEPT();
+    EXPECT_REFUSED(rebatelion_property(e, sizeof e, NULL, 0, &x, &y, &z), 1, 1, 0);
+    EXPECT_KEPT();
+    EXPECT_REFUSED(rebatelion_property(e, sizeof e, kind, sizeof kind, &x, &y, &z), 1, 9, 1);
+    EXPECT_KEPT();
+    EXPECT_REFUSED(rebatelion_property(e, sizeof e, node, sizeof node, &x, &y, &z), 1, 11, 3);
+    EXPECT_KEPT();
+    EXPECT_REFUSED(rebatelion_property(e, sizeof e, open, sizeof open, &x, &y, &z), 1, 13, 4);
+    EXPECT_KEPT();
+    /* L has one action, and the sheet names three */
+    EXPECT_REFUSED(rebatelion_property(l, sizeof l, e_sheet, sizeof e_sheet, &x, &y, &z), 1, 12, 7);
+    EXPECT_KEPT();
+}
+
+static void short_form(void) {
+    const uint8_t f[] = {1, 2, 1, 1}, variable[] = {1, 2, 1, 0};
+    const uint8_t expected[] = {1, 1, 4, 4, 1, 5, 255, 0};
+    fill();
+    EXPECT(rebatelion_short_form(e, sizeof e, f, sizeof f, 1, buffer, LENT, &x), 0);
+    EXPECT(x, sizeof expected);
+    EXPECT_BYTES(buffer, expected, sizeof expected);
+    EXPECT_BYTES(buffer + sizeof expected, before + sizeof expected, LENT - sizeof expected);
+
+    fill();
+    EXPECT_REFUSED(rebatelion_short_form(NULL, 0, f, sizeof f, 1, buffer, LENT, &x), 0, 1, 0);
+    EXPECT_KEPT();
+    EXPECT_REFUSED(rebatelion_short_form(e, sizeof e, NULL, 0, 1, buffer, LENT, &x), 1, 1, 0);
+    EXPECT_KEPT();
+    EXPECT_REFUSED(rebatelion_short_form(e, sizeof e, variable, sizeof variable, 9, NULL, 0, &x), 1, 16, 3);
+    EXPECT_KEPT();
+    EXPECT_REFUSED(rebatelion_short_form(e, sizeof e, f, sizeof f, UINT64_MAX, NULL, 0, &x), 2, 17, 0);
+    EXPECT_KEPT();
+    EXPECT_REFUSED(rebatelion_short_form(e, sizeof e, f, sizeof f, 1, NULL, 0, &x), 2, 14, 0);
+    EXPECT_KEPT();
+    EXPECT_REFUSED(rebatelion_short_form(e, sizeof e, f, sizeof f, 1, buffer, sizeof expected - 1, &x), 2, 14, 0);
+    EXPECT_KEPT();
+}
+
+int main(void) {
+    marks();
+    simulation();
+    property();
+    short_form();
+    printf(wrong ? "calls from C FAILED\n" : "calls from C passed\n");
+    return wrong;
+}

@@ -1,0 +1,206 @@
+//! The archive's calls, as include/rebatelion.h declares them.
+//!
+//! What is lent to a call stands in a `Room`, with a margin on both sides, so that a byte written outside the lent part shows.
+//! Where the archive could not be linked (it is for x86-64 and the checks are not), a program that has it runs beside the
+//! checks, and every call, rooms and all, goes to it through a pipe: bridge/bridge.c.
+
+#[derive(Clone, Copy, PartialEq, Eq, PartialOrd, Ord, Debug)]
+pub enum Question {
+    Marks = 0,
+    Simulation = 1,
+    Property = 2,
+    ShortForm = 3,
+}
+
+pub const QUESTIONS: [Question; 4] = [Question::Marks, Question::Simulation, Question::Property, Question::ShortForm];
+
+/// Bytes before and after a lent part.
+pub const MARGIN: usize = 32;
+
+/// A lent part and its margins. An empty part may be lent as a null pointer.
+#[derive(Clone, PartialEq, Eq)]
+pub struct Room {
+    pub bytes: Vec<u8>,
+    pub null: bool,
+}
+
+impl Room {
+    /// Room for a part of `length` bytes, all zero.
+    pub fn of(length: usize) -> Room {
+        Room { bytes: vec![0; length + 2 * MARGIN], null: false }
+    }
+
+    pub fn len(&self) -> usize {
+        self.bytes.len() - 2 * MARGIN
+    }
+
+    pub fn part(&self) -> &[u8] {
+        &self.bytes[MARGIN..MARGIN + self.len()]
+    }
+
+    pub fn part_mut(&mut self) -> &mut [u8] {
+        let end = MARGIN + self.len();
+        &mut self.bytes[MARGIN..end]
+    }
+}
+
+/// One call with all that is lent to it. The numbers are those of the prototype, in its order; where it has fewer than
+/// three, the others are not lent.
+#[derive(Clone, PartialEq, Eq)]
+pub struct Call {
+    pub question: Question,
+    pub name: u64,
+    pub chart: Room,
+    pub sheet: Room,
+    pub buffer: Room,
+    pub numbers: [u64; 3],
+}
+
+#[cfg(linked)]
+pub use linked::Archive;
+
+#[cfg(linked)]
+mod linked {
+    use super::{Call, Question, Room};
+
+    extern "C" {
+        fn rebatelion_marks(
+            chart: *const u8,
+            chart_len: usize,
+            buffer: *mut u8,
+            buffer_len: usize,
+            states: *mut u64,
+            rounds: *mut u64,
+        ) -> u64;
+        fn rebatelion_simulation(
+            chart: *const u8,
+            chart_len: usize,
+            buffer: *mut u8,
+            buffer_len: usize,
+            states: *mut u64,
+            rounds: *mut u64,
+        ) -> u64;
+        fn rebatelion_property(
+            chart: *const u8,
+            chart_len: usize,
+            sheet: *const u8,
+            sheet_len: usize,
+            word: *mut u64,
+            count: *mut u64,
+            rounds: *mut u64,
+        ) -> u64;
+        fn rebatelion_short_form(
+            chart: *const u8,
+            chart_len: usize,
+            sheet: *const u8,
+            sheet_len: usize,
+            name: u64,
+            buffer: *mut u8,
+            buffer_len: usize,
+            written: *mut u64,
+        ) -> u64;
+    }
+
+    pub struct Archive;
+
+    fn lent(room: &mut Room) -> (*mut u8, usize) {
+        let length = room.len();
+        let at = if room.null { std::ptr::null_mut() } else { room.part_mut().as_mut_ptr() };
+        (at, length)
+    }
+
+    impl Archive {
+        pub fn start() -> Archive {
+            Archive
+        }
+
+        pub fn call(&mut self, call: &mut Call) -> u64 {
+            let (chart, chart_len) = lent(&mut call.chart);
+            let (sheet, sheet_len) = lent(&mut call.sheet);
+            let (buffer, buffer_len) = lent(&mut call.buffer);
+            let [a, b, c] = &mut call.numbers;
+            // SAFETY: the prototypes are those of include/rebatelion.h; each part lies in its own room, and a null one is empty
+            unsafe {
+                match call.question {
+                    Question::Marks => rebatelion_marks(chart, chart_len, buffer, buffer_len, a, b),
+                    Question::Simulation => rebatelion_simulation(chart, chart_len, buffer, buffer_len, a, b),
+                    Question::Property => rebatelion_property(chart, chart_len, sheet, sheet_len, a, b, c),
+                    Question::ShortForm => {
+                        rebatelion_short_form(chart, chart_len, sheet, sheet_len, call.name, buffer, buffer_len, a)
+                    }
+                }
+            }
+        }
+    }
+}
+
+#[cfg(not(linked))]
+pub use bridged::Archive;
+
+#[cfg(not(linked))]
+mod bridged {
+    use super::{Call, MARGIN};
+    use std::io::{Read, Write};
+    use std::process::{Child, ChildStdin, ChildStdout, Command, Stdio};
+
+    pub struct Archive {
+        program: Child,
+        to: ChildStdin,
+        from: ChildStdout,
+        frame: Vec<u8>,
+    }
+
+    impl Archive {
+        pub fn start() -> Archive {
+            let path = concat!(env!("CARGO_MANIFEST_DIR"), "/target/bridge");
+            let mut program = Command::new(path)
+                .stdin(Stdio::piped())
+                .stdout(Stdio::piped())
+                .spawn()
+                .unwrap_or_else(|e| panic!("{path}: {e} (tests/run makes it)"));
+            let to = program.stdin.take().unwrap();
+            let from = program.stdout.take().unwrap();
+            Archive { program, to, from, frame: Vec::new() }
+        }
+
+        /// A frame goes there, and the same frame comes back with the answer in its first word: the question or the code,
+        /// the name, which parts are null, the margin, three lengths, three numbers, three rooms.
+        pub fn call(&mut self, call: &mut Call) -> u64 {
+            let rooms = [&mut call.chart, &mut call.sheet, &mut call.buffer];
+            let frame = &mut self.frame;
+            frame.clear();
+            let nulls = rooms.iter().enumerate().map(|(i, room)| (room.null as u64) << i).sum();
+            let lengths = [rooms[0].len() as u64, rooms[1].len() as u64, rooms[2].len() as u64];
+            for word in [call.question as u64, call.name, nulls, MARGIN as u64].iter().chain(&lengths).chain(&call.numbers) {
+                frame.extend(word.to_le_bytes());
+            }
+            for room in &rooms {
+                frame.extend(&room.bytes);
+            }
+            if let Err(e) = self.to.write_all(frame).and_then(|_| self.from.read_exact(frame)) {
+                let [chart, sheet, _] = rooms.map(|room| room.part().to_vec());
+                panic!(
+                    "the archive's program ended within a call: {e}\n{:?}, chart {chart:02x?}, sheet {sheet:02x?}",
+                    call.question
+                );
+            }
+            let word = |i: usize| u64::from_le_bytes(frame[8 * i..8 * i + 8].try_into().unwrap());
+            call.numbers = [word(7), word(8), word(9)];
+            let mut at = 80;
+            for room in rooms {
+                let length = room.bytes.len();
+                room.bytes.copy_from_slice(&frame[at..at + length]);
+                at += length;
+            }
+            word(0)
+        }
+    }
+
+    impl Drop for Archive {
+        fn drop(&mut self) {
+            // it ends by itself where its input ends; here it is not waited for that long
+            let _ = self.program.kill();
+            let _ = self.program.wait();
+        }
+    }
+}

@@ -1,0 +1,142 @@
+//! Charts that follow the layout.
+
+use super::random::Random;
+use crate::reference::chart::{Chart, Step};
+use std::collections::BTreeSet;
+
+/// A chart with these steps, sorted and each once; mode and action codes drawn.
+pub fn chart(r: &mut Random, n: usize, m: usize, steps: impl IntoIterator<Item = (usize, usize, usize)>) -> Chart {
+    let modes = (0..n).map(|_| r.byte()).collect();
+    let mut codes = BTreeSet::new();
+    while codes.len() < m {
+        codes.insert(r.byte());
+    }
+    let mut steps: Vec<Step> =
+        steps.into_iter().map(|(s, a, t)| Step { source: s as u8, action: a as u8, target: t as u8 }).collect();
+    steps.sort();
+    steps.dedup();
+    Chart { modes, codes: codes.into_iter().collect(), steps }
+}
+
+/// n states, m actions and t steps, drawn from all. t is at most n * m * n.
+pub fn drawn(r: &mut Random, n: usize, m: usize, t: usize) -> Chart {
+    let all = n * m * n;
+    let mut chosen = BTreeSet::new();
+    if 2 * t > all {
+        // more than half: each with the chance that the rest needs
+        for i in 0..all {
+            if r.below(all - i) < t - chosen.len() {
+                chosen.insert(i);
+            }
+        }
+    }
+    while chosen.len() < t {
+        chosen.insert(r.below(all));
+    }
+    chart(r, n, m, chosen.into_iter().map(|i| (i / n / m, i / n % m, i % n)))
+}
+
+/// 0 to 1 to 2 and so on; the last state rests.
+pub fn chain(r: &mut Random, n: usize) -> Chart {
+    chart(r, n, 1, (1..n).map(|s| (s - 1, 0, s)))
+}
+
+/// A ring of n states, one of whose steps bears another action.
+pub fn ring(r: &mut Random, n: usize) -> Chart {
+    chart(r, n, 2, (0..n).map(|s| (s, (s == n - 1) as usize, (s + 1) % n)))
+}
+
+/// Two rings beside each other that differ in one step: in the first every state steps by action 0 and one by action 1 too; in
+/// the second every state steps by both, and one by action 0 alone. The rings turn together until the two states meet, so that
+/// simulation takes as many rounds as the least common multiple of a and b.
+pub fn two_rings(r: &mut Random, a: usize, b: usize) -> Chart {
+    let first = (0..a).map(|s| (s, 0, (s + 1) % a)).chain([(0, 1, 1 % a)]);
+    let second = (0..b).map(|s| (a + s, 0, a + (s + 1) % b));
+    let more = (1..b).map(|s| (a + s, 1, a + (s + 1) % b));
+    chart(r, a + b, 2, first.chain(second).chain(more))
+}
+
+/// A chart with a twin for every state: each step goes to its target, to the target's twin or to both, so that twins are equal.
+pub fn twins(r: &mut Random, half: usize, m: usize, t: usize) -> Chart {
+    let small = drawn(r, half, m, t);
+    let mut steps = Vec::new();
+    for s in &small.steps {
+        let (p, a, q) = (s.source as usize, s.action as usize, s.target as usize);
+        for source in [p, p + half] {
+            let which = r.below(3);
+            if which != 0 {
+                steps.push((source, a, q));
+            }
+            if which != 1 {
+                steps.push((source, a, q + half));
+            }
+        }
+    }
+    chart(r, 2 * half, m, steps)
+}
+
+/// At most one step for each state and action.
+pub fn deterministic(r: &mut Random, n: usize, m: usize) -> Chart {
+    let mut steps = Vec::new();
+    for s in 0..n {
+        for a in 0..m {
+            if !r.once_in(4) {
+                steps.push((s, a, r.below(n)));
+            }
+        }
+    }
+    steps.truncate(1024);
+    chart(r, n, m, steps)
+}
+
+/// Steps lead to later states only.
+pub fn forward(r: &mut Random, n: usize, m: usize, t: usize) -> Chart {
+    let mut steps = Vec::new();
+    for _ in 0..if n > 1 && m > 0 { t } else { 0 } {
+        let s = r.below(n - 1);
+        steps.push((s, r.below(m), r.within(s + 1, n - 1)));
+    }
+    chart(r, n, m, steps)
+}
+
+/// Any of these shapes, with at most `largest` states.
+pub fn any(r: &mut Random, largest: usize) -> Chart {
+    let n = r.within(1, largest);
+    match r.below(10) {
+        0 => chain(r, n),
+        1 => ring(r, n),
+        2 if n >= 2 => {
+            let a = r.within(1, n - 1);
+            two_rings(r, a, n - a)
+        }
+        3 | 4 if n >= 2 => {
+            let m = r.within(1, 3);
+            let most = ((n / 2) * m * (n / 2)).min(n).min(512);
+            let t = r.within(0, most);
+            twins(r, n / 2, m, t)
+        }
+        5 => {
+            let m = r.within(0, 3);
+            deterministic(r, n, m)
+        }
+        6 => {
+            let (m, t) = (r.within(0, 3), r.within(0, 2 * n));
+            forward(r, n, m, t)
+        }
+        7 => {
+            let m = r.within(0, 32);
+            let t = r.within(0, (n * m * n).min(1024));
+            drawn(r, n, m, t)
+        }
+        _ => {
+            let m = r.within(1, 2);
+            let t = r.within(0, (n * m * n).min(3 * n));
+            drawn(r, n, m, t)
+        }
+    }
+}
+
+/// The longest chart: 64 states, 32 actions, 1,024 steps, 3,172 bytes.
+pub fn longest(r: &mut Random) -> Chart {
+    drawn(r, 64, 32, 1024)
+}

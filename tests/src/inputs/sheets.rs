@@ -1,0 +1,79 @@
+//! Sheets that follow the layout.
+
+use super::random::Random;
+
+/// What the leaves of a formula may be.
+#[derive(Clone, Copy, PartialEq)]
+pub enum Leaves {
+    WithVariable,
+    WithoutVariable,
+}
+
+/// A sheet with a formula of exactly `nodes` nodes, for m actions.
+pub fn drawn(r: &mut Random, nodes: usize, m: usize, leaves: Leaves) -> Vec<u8> {
+    let mut out = vec![1, r.below(3) as u8, nodes as u8];
+    formula(r, nodes, m, leaves, &mut out);
+    out
+}
+
+fn formula(r: &mut Random, nodes: usize, m: usize, leaves: Leaves, out: &mut Vec<u8>) {
+    if nodes == 1 {
+        out.push(match leaves {
+            Leaves::WithVariable => [0, 0, 1, 2][r.below(4)],
+            Leaves::WithoutVariable => [1, 2][r.below(2)],
+        });
+    } else if nodes == 2 || r.below(2) == 0 {
+        out.push([5, 6][r.below(2)]);
+        out.push(action(r, m));
+        formula(r, nodes - 1, m, leaves, out);
+    } else {
+        out.push([3, 4][r.below(2)]);
+        let first = r.within(1, nodes - 2);
+        formula(r, first, m, leaves, out);
+        formula(r, nodes - 1 - first, m, leaves, out);
+    }
+}
+
+fn action(r: &mut Random, m: usize) -> u8 {
+    if m == 0 || r.once_in(3) {
+        255
+    } else {
+        r.below(m) as u8
+    }
+}
+
+/// Formulas of the kind that people write, which take many rounds: F and/or, a step to X.
+pub fn recursive(r: &mut Random, m: usize) -> Vec<u8> {
+    let mut f = Vec::new();
+    let size = r.within(1, 5);
+    formula(r, size, m, Leaves::WithoutVariable, &mut f);
+    let mut out = vec![1, r.below(3) as u8, size as u8 + 3, [3, 4][r.below(2)]];
+    out.extend(&f);
+    out.extend([[5, 6][r.below(2)], action(r, m), 0]);
+    out
+}
+
+/// Any of these, with at most `largest` nodes.
+pub fn any(r: &mut Random, largest: usize, m: usize) -> Vec<u8> {
+    match r.below(3) {
+        0 => recursive(r, m),
+        1 => {
+            let nodes = r.within(1, largest);
+            drawn(r, nodes, m, Leaves::WithoutVariable)
+        }
+        _ => {
+            let nodes = r.within(1, largest);
+            drawn(r, nodes, m, Leaves::WithVariable)
+        }
+    }
+}
+
+/// A formula of 200 nodes, all but the last a diamond or a box: 402 bytes.
+pub fn longest(r: &mut Random, m: usize) -> Vec<u8> {
+    let mut out = vec![1, 0, 200];
+    for _ in 0..199 {
+        out.extend([[5, 6][r.below(2)], action(r, m)]);
+    }
+    out.push(1);
+    out
+}

@@ -1,0 +1,161 @@
+//! Competing faults, with the refusal that document 01's order gives, written by hand.
+
+use super::boards::E;
+use crate::compare::{Checker, Told};
+use crate::Job;
+
+/// A chart of 14 bytes, good in all: counts at 0, 3 and 6, codes at 4, triples at 8 and 11.
+const GOOD: [u8; 14] = [2, 7, 8, 2, 1, 2, 2, 0, 0, 0, 1, 1, 1, 0];
+
+fn expect(c: &mut Checker, what: &str, told: Told, input: u64, number: u64, place: u64) {
+    let expected = Some((input, number, place));
+    c.expect(told.refusal() == expected, || format!("{what}: told {:?}, expected {expected:?}", told.refusal()));
+}
+
+fn charts(c: &mut Checker) {
+    let changed = |changes: &[(usize, u8)], length: usize| {
+        let mut out = GOOD.to_vec();
+        out.resize(length.max(14), 9);
+        for &(at, byte) in changes {
+            out[at] = byte;
+        }
+        out.truncate(length);
+        out
+    };
+    let table: &[(&str, Vec<u8>, u64, u64)] = &[
+        ("nothing", vec![], 1, 0),
+        ("no state, and nothing after", vec![0], 2, 0),
+        ("65 states, and nothing after", vec![65], 2, 0),
+        ("255 states", vec![255; 300], 2, 0),
+        ("modes absent", changed(&[], 1), 1, 1),
+        ("a mode absent", changed(&[], 2), 1, 2),
+        ("action count absent", changed(&[], 3), 1, 3),
+        ("33 actions, and nothing after", changed(&[(3, 33)], 4), 3, 3),
+        ("a code absent", changed(&[], 5), 1, 5),
+        ("codes equal, and nothing after", changed(&[(5, 1)], 6), 4, 5),
+        ("codes fall", changed(&[(4, 3)], 14), 4, 5),
+        ("the first code 0", changed(&[(4, 0), (12, 2)], 14), 6, 12),
+        ("count absent", changed(&[], 6), 1, 6),
+        ("count's second byte absent", changed(&[(6, 255)], 7), 1, 7),
+        ("1,025 transitions", changed(&[(6, 1), (7, 4)], 8), 5, 6),
+        ("65,535 transitions", changed(&[(6, 255), (7, 255)], 14), 5, 6),
+        ("codes equal and 1,025 transitions", changed(&[(5, 1), (6, 1), (7, 4)], 14), 4, 5),
+        ("source absent", changed(&[], 8), 1, 8),
+        ("source out of range, and nothing after", changed(&[(8, 2)], 9), 6, 8),
+        ("action out of range, and nothing after", changed(&[(9, 2)], 10), 6, 9),
+        ("target out of range, and nothing after", changed(&[(10, 2)], 11), 6, 10),
+        ("source and action out of range", changed(&[(8, 2), (9, 2)], 14), 6, 8),
+        ("action and target out of range", changed(&[(9, 255), (10, 255)], 14), 6, 9),
+        ("the same triple", changed(&[(11, 0), (12, 0), (13, 1)], 14), 7, 11),
+        ("smaller by its source", changed(&[(8, 1), (11, 0)], 14), 7, 11),
+        ("smaller by its action", changed(&[(9, 1), (11, 0), (12, 0)], 14), 7, 11),
+        ("smaller by its target", changed(&[(11, 0), (12, 0), (13, 0)], 14), 7, 11),
+        ("smaller, and its target absent", changed(&[(8, 1), (11, 0)], 13), 1, 13),
+        ("smaller, and its target out of range", changed(&[(8, 1), (11, 0), (13, 2)], 14), 6, 13),
+        ("smaller, and a byte left over", changed(&[(8, 1), (11, 0)], 15), 7, 11),
+        ("bytes left over", changed(&[], 16), 8, 14),
+        ("a count too small", changed(&[(6, 1)], 14), 8, 11),
+        ("a count too large", changed(&[(6, 3)], 14), 1, 14),
+        ("no action, one triple", vec![1, 9, 0, 1, 0, 0, 0, 0], 6, 6),
+        ("no action, its source out of range", vec![1, 9, 0, 1, 0, 1, 0, 0], 6, 5),
+    ];
+    for (what, chart, number, place) in table {
+        // with no room for an answer too: the chart comes first; and with a bad sheet
+        for buffer in [0, 4096] {
+            let told = c.marks(chart, buffer);
+            expect(c, what, told, 0, *number, *place);
+            let told = c.simulation(chart, buffer);
+            expect(c, what, told, 0, *number, *place);
+            let told = c.short_form(chart, &[0], 9, buffer);
+            expect(c, what, told, 0, *number, *place);
+        }
+        let told = c.property(chart, &[0]);
+        expect(c, what, told, 0, *number, *place);
+    }
+    let told = c.marks(&GOOD, 3);
+    expect(c, "buffer", told, 2, 14, 0);
+}
+
+fn sheets(c: &mut Checker) {
+    let table: &[(&str, &[u8], u64, u64)] = &[
+        ("nothing", &[], 1, 0),
+        ("no equation", &[0], 9, 0),
+        ("two equations", &[2, 3, 0], 9, 0),
+        ("kind absent", &[1], 1, 1),
+        ("kind 3", &[1, 3], 9, 1),
+        ("kind 255 and no node", &[1, 255, 0], 9, 1),
+        ("node count absent", &[1, 0], 1, 2),
+        ("no node", &[1, 0, 0], 10, 2),
+        ("201 nodes", &[1, 0, 201], 10, 2),
+        ("node absent", &[1, 0, 1], 1, 3),
+        ("node 7", &[1, 0, 1, 7], 11, 3),
+        ("node 255", &[1, 0, 2, 255, 0], 11, 3),
+        ("action byte absent", &[1, 0, 1, 5], 1, 4),
+        ("action byte m, nodes used up", &[1, 0, 1, 5, 3], 12, 4),
+        ("action byte 254", &[1, 0, 2, 6, 254, 1], 12, 4),
+        ("nodes used up at the end", &[1, 0, 1, 5, 0], 13, 5),
+        ("nodes used up, a bad node after", &[1, 0, 1, 5, 0, 9], 13, 5),
+        ("nodes used up, a good node after", &[1, 0, 1, 6, 255, 1], 13, 5),
+        ("nodes used up within an and", &[1, 0, 2, 3, 1], 13, 5),
+        ("both operands missing", &[1, 0, 1, 4], 13, 4),
+        ("complete, nodes remain, nothing after", &[1, 0, 2, 1], 13, 4),
+        ("complete, nodes remain, a bad node after", &[1, 0, 2, 1, 9], 13, 4),
+        ("complete, nodes remain, a good node after", &[1, 0, 2, 1, 1], 13, 4),
+        ("complete, many nodes remain", &[1, 0, 200, 5, 255, 2], 13, 6),
+        ("second operand absent", &[1, 0, 3, 3, 1], 1, 5),
+        ("second operand bad", &[1, 0, 3, 3, 1, 7], 11, 5),
+        ("second operand's action absent", &[1, 0, 4, 3, 1, 5], 1, 6),
+        ("a byte left over", &[1, 0, 1, 1, 9], 8, 4),
+        ("a good node left over", &[1, 0, 3, 3, 1, 1, 0], 8, 6),
+    ];
+    for (what, sheet, number, place) in table {
+        let told = c.property(&E, *sheet);
+        expect(c, what, told, 1, *number, *place);
+        for (name, buffer) in [(0, 0), (9, 402)] {
+            let told = c.short_form(&E, *sheet, name, buffer);
+            expect(c, what, told, 1, *number, *place);
+        }
+    }
+}
+
+/// What, the sheet, the name, the length of the buffer; then the input, the number and the place.
+type Case<'a> = (&'a str, &'a [u8], u64, usize, u64, u64, u64);
+
+fn short_forms(c: &mut Checker) {
+    // F of 198 nodes, all but the last boxes
+    let mut long = vec![1, 0, 198];
+    long.extend((1..198).flat_map(|_| [6, 255]));
+    long.push(1);
+    let mut long_with_variable = long.clone();
+    *long_with_variable.last_mut().unwrap() = 0;
+    let plain = [1, 0, 1, 1];
+    let table: [Case; 12] = [
+        ("a variable, a bad name, no room", &[1, 0, 1, 0], 9, 0, 1, 16, 3),
+        ("the second operand a variable", &[1, 0, 3, 3, 1, 0], 0, 0, 1, 16, 5),
+        ("the first of two variables", &[1, 0, 4, 3, 5, 0, 0, 0], 0, 402, 1, 16, 6),
+        ("a variable, and action byte 0 before it", &[1, 0, 2, 5, 0, 0], 0, 402, 1, 16, 5),
+        ("a variable in a long F", &long_with_variable, 0, 402, 1, 16, 397),
+        ("name 4, no room", &plain, 4, 0, 2, 17, 0),
+        ("name 256", &plain, 256, 402, 2, 17, 0),
+        ("the greatest name", &plain, u64::MAX, 402, 2, 17, 0),
+        ("name 4, a long F", &long, 4, 0, 2, 17, 0),
+        ("a long F, no room", &long, 0, 0, 1, 10, 2),
+        ("no room", &plain, 3, 0, 2, 14, 0),
+        ("a byte too short", &plain, 2, 11, 2, 14, 0),
+    ];
+    for (what, sheet, name, buffer, input, number, place) in table {
+        let told = c.short_form(&E, sheet, name, buffer);
+        expect(c, what, told, input, number, place);
+    }
+}
+
+pub fn jobs() -> Vec<Job> {
+    vec![Job {
+        name: "order",
+        run: Box::new(|c| {
+            charts(c);
+            sheets(c);
+            short_forms(c);
+        }),
+    }]
+}

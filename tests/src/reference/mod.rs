@@ -1,0 +1,10 @@
+//! Document 01 once more, written from its text alone: charts, sheets, their refusals and the four questions. It is made to be
+//! read beside the document, and not to be fast. The checks hold the proved archive against it.
+
+pub mod chart;
+pub mod nearness;
+pub mod property;
+pub mod refusal;
+pub mod settle;
+pub mod sheet;
+pub mod short_form;
