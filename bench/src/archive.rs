@@ -1,0 +1,45 @@
+//! The archive's calls, as include/rebatelion.h declares them.
+
+mod raw {
+    extern "C" {
+        pub fn rebatelion_marks(c: *const u8, cn: usize, b: *mut u8, bn: usize, states: &mut u64, rounds: &mut u64) -> u64;
+        pub fn rebatelion_simulation(c: *const u8, cn: usize, b: *mut u8, bn: usize, states: &mut u64, rounds: &mut u64)
+            -> u64;
+        pub fn rebatelion_property(
+            c: *const u8,
+            cn: usize,
+            s: *const u8,
+            sn: usize,
+            word: &mut u64,
+            count: &mut u64,
+            rounds: &mut u64,
+        ) -> u64;
+    }
+}
+
+pub fn marks(chart: &[u8], buffer: &mut [u8]) -> Option<u64> {
+    let (mut states, mut rounds) = (0, 0);
+    // SAFETY: slices of these lengths
+    let code = unsafe {
+        raw::rebatelion_marks(chart.as_ptr(), chart.len(), buffer.as_mut_ptr(), buffer.len(), &mut states, &mut rounds)
+    };
+    (code == 0).then_some(rounds)
+}
+
+pub fn simulation(chart: &[u8], buffer: &mut [u8]) -> Option<u64> {
+    let (mut states, mut rounds) = (0, 0);
+    // SAFETY: slices of these lengths
+    let code = unsafe {
+        raw::rebatelion_simulation(chart.as_ptr(), chart.len(), buffer.as_mut_ptr(), buffer.len(), &mut states, &mut rounds)
+    };
+    (code == 0).then_some(rounds)
+}
+
+pub fn property(chart: &[u8], sheet: &[u8]) -> Option<(u64, u64, u64)> {
+    let (mut word, mut count, mut rounds) = (0, 0, 0);
+    // SAFETY: slices of these lengths
+    let code = unsafe {
+        raw::rebatelion_property(chart.as_ptr(), chart.len(), sheet.as_ptr(), sheet.len(), &mut word, &mut count, &mut rounds)
+    };
+    (code == 0).then_some((word, count, rounds))
+}

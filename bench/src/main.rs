@@ -1,0 +1,164 @@
+//! Times the archive's calls beside Rust of the same shape and beside the fastest Rust that we know, in one run. Each time is the
+//! least processor time of several samples, taken in turn; the buffers are not cleared between calls.
+
+mod archive;
+mod cases;
+mod read;
+mod same_shape;
+mod words;
+
+use std::hint::black_box;
+
+const SAMPLES: usize = 15;
+const SAMPLE_SECONDS: f64 = 0.004;
+
+/// The processor time of this thread so far, in seconds: what else the machine does counts little.
+fn now() -> f64 {
+    extern "C" {
+        fn clock_gettime(clock: i32, out: &mut [i64; 2]) -> i32;
+    }
+    const CLOCK_THREAD_CPUTIME_ID: i32 = 3;
+    let mut time = [0; 2];
+    // SAFETY: a timespec is two 64-bit numbers on 64-bit Linux
+    let failed = unsafe { clock_gettime(CLOCK_THREAD_CPUTIME_ID, &mut time) };
+    assert!(failed == 0, "no clock");
+    time[0] as f64 + time[1] as f64 * 1e-9
+}
+
+/// Seconds a call of each, the least of the samples.
+fn time<const N: usize>(mut calls: [&mut dyn FnMut(); N]) -> [f64; N] {
+    let mut repeats = [1usize; N];
+    for (call, repeat) in calls.iter_mut().zip(&mut repeats) {
+        loop {
+            let start = now();
+            for _ in 0..*repeat {
+                call();
+            }
+            let took = now() - start;
+            if took >= SAMPLE_SECONDS {
+                break;
+            }
+            *repeat = (*repeat * 2).max((*repeat as f64 * SAMPLE_SECONDS / took.max(1e-9)).min(1e7) as usize);
+        }
+    }
+    let mut least = [f64::INFINITY; N];
+    for _ in 0..SAMPLES {
+        for i in 0..N {
+            let start = now();
+            for _ in 0..repeats[i] {
+                calls[i]();
+            }
+            least[i] = least[i].min((now() - start) / repeats[i] as f64);
+        }
+    }
+    least
+}
+
+fn row(question: &str, case: &str, rounds: u64, [archive, same, words]: [f64; 3]) {
+    let us = 1e6;
+    println!(
+        "| {question:<10} | {case:<49} | {rounds:>6} | {:>10.2} | {:>10.2} | {:>8.2} | {:>12.2} | {:>13.2} |",
+        archive * us,
+        same * us,
+        words * us,
+        archive / same,
+        archive / words
+    );
+}
+
+type Matrix = fn(&[u8], &mut [u8]) -> Option<u64>;
+
+/// The rounds, and the times of archive, same shape and words. They must agree first.
+fn matrix(chart: &[u8], calls: [Matrix; 3]) -> (u64, [f64; 3]) {
+    let mut buffers = [[9; 4096]; 3];
+    let rounds: Vec<u64> = (0..3).map(|i| calls[i](chart, &mut buffers[i]).expect("a good chart")).collect();
+    assert!(rounds.iter().all(|&k| k == rounds[0]) && buffers[1] == buffers[0] && buffers[2] == buffers[0], "they differ");
+    let [b0, b1, b2] = &mut buffers;
+    let times = time([
+        &mut || {
+            black_box(calls[0](black_box(chart), b0));
+        },
+        &mut || {
+            black_box(calls[1](black_box(chart), b1));
+        },
+        &mut || {
+            black_box(calls[2](black_box(chart), b2));
+        },
+    ]);
+    (rounds[0], times)
+}
+
+fn property(chart: &[u8], sheet: &[u8]) -> (u64, [f64; 3]) {
+    let answer = archive::property(chart, sheet).expect("a good chart and sheet");
+    assert!(same_shape::property(chart, sheet) == Some(answer) && words::property(chart, sheet) == Some(answer), "they differ");
+    let times = time([
+        &mut || {
+            black_box(archive::property(black_box(chart), black_box(sheet)));
+        },
+        &mut || {
+            black_box(same_shape::property(black_box(chart), black_box(sheet)));
+        },
+        &mut || {
+            black_box(words::property(black_box(chart), black_box(sheet)));
+        },
+    ]);
+    (answer.2, times)
+}
+
+const MARKS: [Matrix; 3] = [archive::marks, same_shape::marks, words::marks];
+const SIMULATION: [Matrix; 3] = [archive::simulation, same_shape::simulation, words::simulation];
+
+fn main() {
+    println!("Times in microseconds, the least of {SAMPLES} samples.\n");
+    let (question, case) = ("question", "case");
+    println!("| {question:<10} | {case:<49} | rounds |    archive | same shape |    words | archive/same | archive/words |");
+    println!("|---|---|---|---|---|---|---|---|");
+    let charts = [
+        ("E", cases::e()),
+        ("64 states, 32 actions, 1,024 triples, drawn", cases::drawn(64, 32, 1024)),
+        ("64 states, 2 actions, 1,024 triples, drawn", cases::drawn(64, 2, 1024)),
+        ("64 states, 4 actions, 1,008 triples, nearly alike", cases::nearly_alike()),
+        ("chain of 64", cases::chain(64)),
+        ("ring of 64", cases::ring(64)),
+        ("rings of 31 and 33", cases::two_rings(31, 33)),
+    ];
+    for (question, calls) in [("marks", MARKS), ("simulation", SIMULATION)] {
+        for (case, chart) in &charts {
+            let (rounds, times) = matrix(chart, calls);
+            row(question, case, rounds, times);
+        }
+    }
+    let drawn = cases::drawn(64, 32, 1024);
+    for (case, chart, sheet) in [
+        ("E, its sheet", cases::e(), cases::e_sheet()),
+        ("1,024 triples, 5 nodes", drawn.clone(), cases::reach_rest()),
+        ("1,024 triples, 200 nodes drawn", drawn.clone(), cases::drawn_sheet(32)),
+        ("1,024 triples, 200 nodes nested", drawn, cases::nested_sheet()),
+        ("chain of 64, 5 nodes", cases::chain(64), cases::reach_rest()),
+        ("chain of 64, 200 nodes", cases::chain(64), cases::long_reach_rest()),
+    ] {
+        let (rounds, times) = property(&chart, &sheet);
+        row("property", case, rounds, times);
+    }
+
+    println!(
+        "\nHow the archive's time grows, in microseconds: n states, 2 actions, t triples, drawn; a property of 200 nodes.\n"
+    );
+    println!("|   n |     t |      marks | simulation |   property |");
+    println!("|---|---|---|---|---|");
+    let sheet = cases::drawn_sheet(2);
+    for (n, t) in [(8, 32), (16, 64), (32, 128), (64, 256), (64, 0), (64, 64), (64, 128), (64, 512), (64, 1024)] {
+        let chart = cases::drawn(n, 2, t);
+        let mut buffer = [0; 4096];
+        let [marks] = time([&mut || {
+            black_box(archive::marks(black_box(&chart), &mut buffer));
+        }]);
+        let [simulation] = time([&mut || {
+            black_box(archive::simulation(black_box(&chart), &mut buffer));
+        }]);
+        let [property] = time([&mut || {
+            black_box(archive::property(black_box(&chart), black_box(&sheet)));
+        }]);
+        println!("| {n:>3} | {t:>5} | {:>10.2} | {:>10.2} | {:>10.2} |", marks * 1e6, simulation * 1e6, property * 1e6);
+    }
+}

@@ -1,0 +1,158 @@
+//! Rust of the archive's own shape: the relation as a byte matrix in the lent buffer, the steps of a state as a range of the
+//! sorted triples, each round over all pairs; formulas evaluated over the sheet's bytes, with a pass over the triples for every
+//! diamond and box.
+
+use crate::read::{self, Shape};
+
+/// The triples, sorted.
+fn triples(chart: &[u8], shape: Shape) -> &[[u8; 3]] {
+    chart[shape.at..].as_chunks().0
+}
+
+/// The steps of each state: a range of the triples.
+fn sources(triples: &[[u8; 3]], n: usize) -> [&[[u8; 3]]; 64] {
+    let mut of: [&[[u8; 3]]; 64] = [&[]; 64];
+    let mut rest = triples;
+    for (s, steps) in of[..n].iter_mut().enumerate() {
+        let count = rest.iter().position(|t| t[0] as usize > s).unwrap_or(rest.len());
+        (*steps, rest) = rest.split_at(count);
+    }
+    of
+}
+
+/// A cell was in the relation when the round began: it is 0, or has the byte of this round.
+fn stands(cell: u8, v: u8) -> bool {
+    cell == 0 || cell == v
+}
+
+/// Each step is answered by one of the others; the cell of their targets x and y is x * row + y * column.
+fn all_answered(steps: &[[u8; 3]], others: &[[u8; 3]], buffer: &[u8], row: usize, column: usize, v: u8) -> bool {
+    for &[_, action, x] in steps {
+        let base = x as usize * row;
+        let mut found = false;
+        for &[_, b, y] in others {
+            if b == action && stands(buffer[base + y as usize * column], v) {
+                found = true;
+                break;
+            }
+        }
+        if !found {
+            return false;
+        }
+    }
+    true
+}
+
+/// One round: the pairs that do not stay get the byte v. Whether there was one.
+fn round(steps: &[&[[u8; 3]]], both_ways: bool, v: u8, buffer: &mut [u8]) -> bool {
+    let n = steps.len();
+    let mut changed = false;
+    for (p, of_p) in steps.iter().enumerate() {
+        for (q, of_q) in steps.iter().enumerate() {
+            if buffer[p * n + q] != 0 {
+                continue;
+            }
+            let stays = all_answered(of_p, of_q, buffer, n, 1, v) && (!both_ways || all_answered(of_q, of_p, buffer, 1, n, v));
+            if !stays {
+                buffer[p * n + q] = v;
+                changed = true;
+            }
+        }
+    }
+    changed
+}
+
+/// The rounds.
+#[inline(never)]
+pub fn marks(chart: &[u8], buffer: &mut [u8]) -> Option<u64> {
+    let shape = read::chart(chart)?;
+    let n = shape.n;
+    let buffer = buffer.get_mut(..n * n)?;
+    buffer.fill(0);
+    let steps = sources(triples(chart, shape), n);
+    let mut k = 0;
+    while round(&steps[..n], true, (k + 1) as u8, buffer) {
+        k += 1;
+    }
+    Some(k)
+}
+
+/// The rounds. While it works a cell is 0 in the relation, 1 out of it since this round, 2 for longer.
+#[inline(never)]
+pub fn simulation(chart: &[u8], buffer: &mut [u8]) -> Option<u64> {
+    let shape = read::chart(chart)?;
+    let n = shape.n;
+    let buffer = buffer.get_mut(..n * n)?;
+    buffer.fill(0);
+    let steps = sources(triples(chart, shape), n);
+    let mut k = 0;
+    while round(&steps[..n], false, 1, buffer) {
+        for cell in buffer.iter_mut() {
+            if *cell == 1 {
+                *cell = 2;
+            }
+        }
+        k += 1;
+    }
+    for cell in buffer.iter_mut() {
+        *cell = (*cell == 0) as u8;
+    }
+    Some(k)
+}
+
+/// One pass over the triples.
+fn diamond(triples: &[[u8; 3]], action: u8, f: u64) -> u64 {
+    let mut w = 0;
+    for &[source, b, target] in triples {
+        if (action == 255 || b == action) && f >> target & 1 == 1 {
+            w |= 1 << source;
+        }
+    }
+    w
+}
+
+/// The word of the formula at a place, the place after it and the nodes still unread. It reads as the reader of a sheet does, node by
+/// node, and so does the archive's.
+fn evaluate(triples: &[[u8; 3]], m: usize, all: u64, sheet: &[u8], at: usize, left: usize, set: u64) -> Option<(u64, usize, usize)> {
+    if left == 0 {
+        return None;
+    }
+    match *sheet.get(at)? {
+        0 => Some((set, at + 1, left - 1)),
+        1 => Some((all, at + 1, left - 1)),
+        2 => Some((0, at + 1, left - 1)),
+        node @ (3 | 4) => {
+            let (f, between, some) = evaluate(triples, m, all, sheet, at + 1, left - 1, set)?;
+            let (g, after, rest) = evaluate(triples, m, all, sheet, between, some, set)?;
+            Some((if node == 3 { f & g } else { f | g }, after, rest))
+        }
+        node @ (5 | 6) => {
+            let action = *sheet.get(at + 1)?;
+            if action as usize >= m && action != 255 {
+                return None;
+            }
+            let (f, after, rest) = evaluate(triples, m, all, sheet, at + 2, left - 1, set)?;
+            let word = if node == 5 { diamond(triples, action, f) } else { all & !diamond(triples, action, all & !f) };
+            Some((word, after, rest))
+        }
+        _ => None,
+    }
+}
+
+/// The word, the number of states in it and the rounds.
+#[inline(never)]
+pub fn property(chart: &[u8], sheet: &[u8]) -> Option<(u64, u64, u64)> {
+    let shape = read::chart(chart)?;
+    let kind = read::sheet(sheet, shape.m)?;
+    let triples = triples(chart, shape);
+    let mut set = read::first_set(kind, shape.n);
+    let mut rounds = 0;
+    loop {
+        let (next, _, _) = evaluate(triples, shape.m, read::all(shape.n), sheet, 3, sheet[2] as usize, set)?;
+        if next == set {
+            return Some((set, set.count_ones() as u64, rounds));
+        }
+        set = next;
+        rounds += 1;
+    }
+}
