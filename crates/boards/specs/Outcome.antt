@@ -2,7 +2,7 @@
 use Prim.Native.Nat.{ℕ}
 use mathlib.Core.Bool.{Bool, false}
 use lib.Dec.{eqb}
-use Rattle.refusal.specs.Refusal.{pick}
+use Rattle.settle.specs.Test.{pick}
 use Rattle.chart.specs.declared.ChartRead.{ChartRead}
 use Rattle.chart.specs.declared.ChartRead.the-variants as Chart
 use Rattle.sheet.specs.declared.SheetRead.{SheetRead}

@@ -10,7 +10,7 @@ use lib.ListN.{length, getD}
 use lib.Dec.{ltb}
 use borrow.Author.Tests.{ltb-false, lt-leb, le-ltb, lt-ltb}
 use Rattle.refusal.specs.declared.Refusal.{Refusal}
-use Rattle.refusal.specs.Refusal.{pick}
+use Rattle.settle.specs.Test.{pick}
 use Rattle.chart.specs.Chart.{Step}
 use Rattle.chart.specs.Layout.{Earlier, StepIn}
 use Rattle.chart.specs.Reading.{stepAt, presence, judgeCodes, judgeTriple, judgeTriples, whereFine, readTransitions, readActions, readChart}

@@ -8,7 +8,7 @@ use native.Mathlib.Omega.{arith}
 use lib.ListN.{length, getD}
 use lib.Dec.{ltb}
 use borrow.Author.Tests.{ltb-true, ltb-false, lt-leb, le-ltb, lt-ltb, ne-eqb}
-use Rattle.refusal.specs.Refusal.{pick}
+use Rattle.settle.specs.Test.{pick}
 use Rattle.chart.specs.Chart.{Step}
 use Rattle.chart.specs.Layout.{Earlier}
 use Rattle.chart.specs.Reading.{stepAt, presence, codeOrder, judgeCodes, earlier, tripleOrder, judgeTriple, judgeTriples}

@@ -7,7 +7,8 @@ use native.Mathlib.Omega.{arith}
 use lib.ListN.{length, getD}
 use lib.Dec.{ltb, leb}
 use borrow.Author.Tests.{leb-false, ltb-true}
-use Rattle.refusal.specs.Refusal.{chartRefusal, pick}
+use Rattle.settle.specs.Test.{pick}
+use Rattle.refusal.specs.Refusal.{chartRefusal}
 use Rattle.refusal.specs.declared.Refusal.{Refusal}
 use Rattle.chart.specs.Layout.{StepIn}
 use Rattle.chart.specs.Reading.{stepAt, andThen, presence, codeOrder, judgeCodes, judgeByte, tripleOrder, judgeTriple, judgeTriples}

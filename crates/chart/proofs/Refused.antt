@@ -9,7 +9,8 @@ use lib.Dec.{ltb, leb, eqb}
 use borrow.Author.Tests.{leb-true, ltb-false}
 use Rattle.refusal.specs.declared.Input.the-variants as Input
 use Rattle.refusal.specs.declared.Refusal.{Refusal}
-use Rattle.refusal.specs.Refusal.{chartRefusal, pick}
+use Rattle.settle.specs.Test.{pick}
+use Rattle.refusal.specs.Refusal.{chartRefusal}
 use Rattle.chart.specs.Reading.{stepAt, andThen, presence, codeOrder, judgeCodes, judgeByte, earlier, tripleOrder, judgeTriple, judgeTriples, whereFine, readTransitions, readActions, readChart}
 use Rattle.chart.specs.declared.Judged.{Judged}
 use Rattle.chart.specs.declared.Judged.the-variants.{Fine, Bad}

@@ -6,7 +6,8 @@ use mathlib.Core.Bool.{Bool, true, false}
 use mathlib.Core.List.{List, [], _∷_}
 use lib.ListN.{length, getD}
 use lib.Dec.{ltb, leb, eqb}
-use Rattle.refusal.specs.Refusal.{chartRefusal, pick}
+use Rattle.settle.specs.Test.{pick}
+use Rattle.refusal.specs.Refusal.{chartRefusal}
 use Rattle.chart.specs.Chart.{Step, Chart, states, actions, transitions}
 use Rattle.chart.specs.declared.Shape.{Shape}
 use Rattle.chart.specs.declared.ChartRead.{ChartRead}

@@ -1,9 +1,7 @@
-use refusal::Input;
 use refusal::Refusal;
 ghost use mathlib.Core.Path.{_≡_};
 ghost use Prim.Native.Nat.{_+_, _*_, _≤_, _<_};
 ghost use lib.ListN.{length};
-ghost use Rattle.refusal.specs.Refusal.{chartRefusal};
 ghost use Rattle.chart.specs.Reading.{stepAt, codeOrder, judgeCodes, judgeByte, earlier, tripleOrder, judgeTriple, judgeTriples, readTransitions, readActions, readChart};
 
 // The counts n, m and t of an accepted chart: the rest of it stays in the bytes.
@@ -24,16 +22,6 @@ pub enum Judged {
     Bad(Refusal),
 }
 
-fn refuse(number: u8, place: usize) -> Refusal
-    ensures { λ r. ⌜ r ≡ chartRefusal number place ⌝ }
-{
-    Refusal {
-        input: Input::Chart,
-        number: number,
-        place: place,
-    }
-}
-
 // Action code number i, which stands at p: is it greater than the one before?
 fn code_order(bytes: &[u8], p: usize, i: usize) -> Judged
     requires { ⌜ (p < length (now bytes)) × (i ≤ p) ⌝ }
@@ -45,7 +33,7 @@ fn code_order(bytes: &[u8], p: usize, i: usize) -> Judged
     if bytes[p - 1] < bytes[p] {
         return Judged::Fine;
     }
-    Judged::Bad(refuse(4, p))
+    Judged::Bad(refusal::of_chart(4, p))
 }
 
 fn judge_codes(bytes: &[u8], at: usize, m: usize) -> Judged
@@ -55,7 +43,7 @@ fn judge_codes(bytes: &[u8], at: usize, m: usize) -> Judged
     let mut i: usize = 0;
     while i < m {
         if bytes.len() <= p {
-            return Judged::Bad(refuse(1, bytes.len()));
+            return Judged::Bad(refusal::of_chart(1, bytes.len()));
         }
         match code_order(bytes, p, i) {
             Judged::Fine => {}
@@ -72,12 +60,12 @@ fn judge_byte(bytes: &[u8], p: usize, bound: usize) -> Judged
     ensures { λ r. ⌜ r ≡ judgeByte (now (bytes .entry)) p bound ⌝ }
 {
     if bytes.len() <= p {
-        return Judged::Bad(refuse(1, bytes.len()));
+        return Judged::Bad(refusal::of_chart(1, bytes.len()));
     }
     if (bytes[p] as usize) < bound {
         return Judged::Fine;
     }
-    Judged::Bad(refuse(6, p))
+    Judged::Bad(refusal::of_chart(6, p))
 }
 
 // Is the triple at q before the one at p?
@@ -111,7 +99,7 @@ fn triple_order(bytes: &[u8], p: usize, i: usize) -> Judged
     if is_earlier(bytes, p - 3, p) {
         return Judged::Fine;
     }
-    Judged::Bad(refuse(7, p))
+    Judged::Bad(refusal::of_chart(7, p))
 }
 
 // Triple number i, which stands at p: each byte as it is read, then the order.
@@ -155,17 +143,17 @@ fn read_transitions(bytes: &[u8], n: usize, m: usize, p: usize) -> ChartRead
     ensures { λ r. ⌜ r ≡ readTransitions (now (bytes .entry)) n m p ⌝ }
 {
     if bytes.len() <= p {
-        return ChartRead::Refused(refuse(1, bytes.len()));
+        return ChartRead::Refused(refusal::of_chart(1, bytes.len()));
     }
     let next = p + 1;
     if bytes.len() <= next {
-        return ChartRead::Refused(refuse(1, bytes.len()));
+        return ChartRead::Refused(refusal::of_chart(1, bytes.len()));
     }
     let low = bytes[p] as usize;
     let high = bytes[next] as usize;
     let t = low + 256 * high;
     if 1024 < t {
-        return ChartRead::Refused(refuse(5, p));
+        return ChartRead::Refused(refusal::of_chart(5, p));
     }
     match judge_triples(bytes, n, m, p + 2, t) {
         Judged::Fine => {}
@@ -173,7 +161,7 @@ fn read_transitions(bytes: &[u8], n: usize, m: usize, p: usize) -> ChartRead
     }
     let end = p + 2 + 3 * t;
     if end < bytes.len() {
-        return ChartRead::Refused(refuse(8, end));
+        return ChartRead::Refused(refusal::of_chart(8, end));
     }
     ChartRead::Chart(Shape { n, m, t })
 }
@@ -183,11 +171,11 @@ fn read_actions(bytes: &[u8], n: usize, p: usize) -> ChartRead
     ensures { λ r. ⌜ r ≡ readActions (now (bytes .entry)) n p ⌝ }
 {
     if bytes.len() <= p {
-        return ChartRead::Refused(refuse(1, bytes.len()));
+        return ChartRead::Refused(refusal::of_chart(1, bytes.len()));
     }
     let m = bytes[p] as usize;
     if 32 < m {
-        return ChartRead::Refused(refuse(3, p));
+        return ChartRead::Refused(refusal::of_chart(3, p));
     }
     match judge_codes(bytes, p + 1, m) {
         Judged::Fine => read_transitions(bytes, n, m, p + 1 + m),
@@ -200,17 +188,17 @@ pub fn read_chart(bytes: &[u8]) -> ChartRead
     ensures { λ r. ⌜ r ≡ readChart (now (bytes .entry)) ⌝ }
 {
     if bytes.len() <= 0 {
-        return ChartRead::Refused(refuse(1, bytes.len()));
+        return ChartRead::Refused(refusal::of_chart(1, bytes.len()));
     }
     let n = bytes[0] as usize;
     if n < 1 {
-        return ChartRead::Refused(refuse(2, 0));
+        return ChartRead::Refused(refusal::of_chart(2, 0));
     }
     if 64 < n {
-        return ChartRead::Refused(refuse(2, 0));
+        return ChartRead::Refused(refusal::of_chart(2, 0));
     }
     if bytes.len() <= n {
-        return ChartRead::Refused(refuse(1, bytes.len()));
+        return ChartRead::Refused(refusal::of_chart(1, bytes.len()));
     }
     read_actions(bytes, n, 1 + n)
 }

@@ -7,9 +7,8 @@ use native.Mathlib.Omega.{arith}
 use lib.Bits.{bitOr, bitAnd, and-lt, or-lt}
 use lib.Pow.{pow-pos}
 use lib.Dec.{eqb}
-use Rattle.settle.specs.Test.{both, either, neg, anyOf, some, each}
+use Rattle.settle.specs.Test.{pick, both, either, neg, anyOf, some, each}
 use Rattle.settle.proofs.Test.{ext, neg-i, neg-e, some-i, some-e, each-i, each-e, stable, any-cong, all-cong}
-use Rattle.refusal.specs.Refusal.{pick}
 use Rattle.chart.specs.Chart.{Step}
 use Rattle.chart.specs.Layout.{StepIn}
 use Rattle.chart.specs.Reading.{stepAt, stepsAt, chartIn}

@@ -5,8 +5,7 @@ use mathlib.Core.Bool.{Bool}
 use mathlib.Core.List.{List}
 use lib.Dec.{eqb}
 use lib.Bits.{bitAnd, bitOr}
-use Rattle.refusal.specs.Refusal.{pick}
-use Rattle.settle.specs.Test.{both, either, some, each}
+use Rattle.settle.specs.Test.{pick, both, either, some, each}
 use Rattle.chart.specs.Chart.{Step}
 use Rattle.chart.specs.Reading.{chartIn, readChart}
 use Rattle.chart.specs.declared.Shape.{Shape}

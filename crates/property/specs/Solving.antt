@@ -3,10 +3,10 @@ use Prim.Native.Nat.{ℕ, _≤_}
 use mathlib.Core.Path.{_≡_}
 use mathlib.Core.Bool.{Bool}
 use mathlib.Core.List.{List}
-use Rattle.settle.specs.Test.{count}
+use Rattle.settle.specs.Test.{pick, count}
 use Rattle.settle.specs.Finite.{below}
 use Rattle.settle.specs.Chain.{empty, full, chain, Settled, Rounds}
-use Rattle.refusal.specs.Refusal.{pick, lentRefusal}
+use Rattle.refusal.specs.Refusal.{lentRefusal}
 use Rattle.chart.specs.Reading.{chartIn}
 use Rattle.chart.specs.declared.Shape.{Shape}
 use Rattle.sheet.specs.Formula.{Formula, bottom}

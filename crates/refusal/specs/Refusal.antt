@@ -1,6 +1,5 @@
 -- The numbers of document 01 for a refusal: input 0 chart, 1 sheet, 2 buffer or name; the number and the place as they stand.
 use Prim.Native.Nat.{ℕ}
-use mathlib.Core.Bool.{Bool, true, false}
 use Rattle.refusal.specs.declared.Input.{Input}
 use Rattle.refusal.specs.declared.Input.the-variants as Input
 use Rattle.refusal.specs.declared.Refusal.{Refusal}
@@ -20,8 +19,3 @@ sheetRefusal number place = record { input = Input.Sheet; number = number; place
 -- of the buffer or the name: place 0
 abbrev pub lentRefusal : ℕ → Refusal
 lentRefusal number = record { input = Input.BufferOrName; number = number; place = 0 }
-
--- the first where the test holds, else the second
-abbrev pub pick : {A : Type 0} → Bool → A → A → A
-pick true a b = a
-pick false a b = b

@@ -1,4 +1,6 @@
 // A refusal of document 01: the input at fault, the number and the place.
+ghost use mathlib.Core.Path.{_≡_};
+ghost use Rattle.refusal.specs.Refusal.{inputNumber, chartRefusal, sheetRefusal, lentRefusal};
 
 pub enum Input {
     Chart,
@@ -10,4 +12,48 @@ pub struct Refusal {
     pub input: Input,
     pub number: u8,
     pub place: usize,
+}
+
+// The document's number of the input at fault.
+pub fn input_number(input: Input) -> u8
+    ensures { λ r. ⌜ r ≡ inputNumber input ⌝ }
+{
+    match input {
+        Input::Chart => 0,
+        Input::Sheet => 1,
+        Input::BufferOrName => 2,
+    }
+}
+
+// The refusal of a chart.
+pub fn of_chart(number: u8, place: usize) -> Refusal
+    ensures { λ r. ⌜ r ≡ chartRefusal number place ⌝ }
+{
+    Refusal {
+        input: Input::Chart,
+        number,
+        place,
+    }
+}
+
+// The refusal of a sheet.
+pub fn of_sheet(number: u8, place: usize) -> Refusal
+    ensures { λ r. ⌜ r ≡ sheetRefusal number place ⌝ }
+{
+    Refusal {
+        input: Input::Sheet,
+        number,
+        place,
+    }
+}
+
+// The refusal of the lent buffer or of a name: its place is 0.
+pub fn of_lent(number: u8) -> Refusal
+    ensures { λ r. ⌜ r ≡ lentRefusal number ⌝ }
+{
+    Refusal {
+        input: Input::BufferOrName,
+        number,
+        place: 0,
+    }
 }

@@ -9,9 +9,8 @@ use lib.Dec.{eqb}
 use lib.ListN.{length, getD, set, length-set}
 use lib.Seq.{getD-set-same, getD-set-other}
 use borrow.Author.Tests.{eqb-true, eq-eqb}
-use Rattle.settle.specs.Test.{either}
+use Rattle.settle.specs.Test.{pick, either}
 use Rattle.settle.proofs.Test.{never, both-i, both-e, either-l, either-r, neg-i, neg-e}
-use Rattle.refusal.specs.Refusal.{pick}
 use Rattle.chart.specs.Chart.{Step}
 use Rattle.relation.specs.Held.{standing, readBy, held, roundOf, falls, SomeFalls, Struck, Cleared}
 use Rattle.relation.proofs.Cells.{cell-pair}

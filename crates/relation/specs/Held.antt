@@ -5,8 +5,7 @@ use mathlib.Core.Bool.{Bool, true, false, So}
 use mathlib.Core.List.{List}
 use lib.ListN.{length, getD}
 use lib.Dec.{eqb}
-use Rattle.settle.specs.Test.{both, either, neg}
-use Rattle.refusal.specs.Refusal.{pick}
+use Rattle.settle.specs.Test.{pick, both, either, neg}
 use Rattle.chart.specs.Chart.{Step}
 use Rattle.chart.specs.Reading.{stepsAt}
 use Rattle.nearness.specs.Relation.{Relation, bisimulationRound, simulationRound}

@@ -8,7 +8,8 @@ use native.Mathlib.Nat.{le-refl}
 use native.Mathlib.Decide.{decLt, le-ind}
 use lib.Dec.{eqb}
 use lib.ListN.{length, length-append}
-use Rattle.refusal.specs.Refusal.{inputNumber, pick}
+use Rattle.settle.specs.Test.{pick}
+use Rattle.refusal.specs.Refusal.{inputNumber}
 use Rattle.refusal.specs.declared.Refusal.{Refusal}
 use Rattle.refusal.specs.declared.Input.the-variants as Input
 use Rattle.text.specs.Text.{decimal, line}

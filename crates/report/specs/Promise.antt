@@ -6,7 +6,8 @@ use lib.Dec.{ltb}
 use lib.ListN.{length, drop}
 use Rattle.settle.specs.Finite.{pairs}
 use Rattle.settle.specs.Chain.{Rounds}
-use Rattle.refusal.specs.Refusal.{lentRefusal, pick}
+use Rattle.settle.specs.Test.{pick}
+use Rattle.refusal.specs.Refusal.{lentRefusal}
 use Rattle.chart.specs.Reading.{readChart, chartIn}
 use Rattle.chart.specs.declared.Shape.{Shape}
 use Rattle.chart.specs.declared.ChartRead.{ChartRead}

@@ -2,7 +2,8 @@
 use Prim.Native.Nat.{ℕ, zero, suc, _+_, _-_}
 use mathlib.Core.List.{List, [], _∷_, _++_}
 use lib.Dec.{eqb}
-use Rattle.refusal.specs.Refusal.{inputNumber, pick}
+use Rattle.settle.specs.Test.{pick}
+use Rattle.refusal.specs.Refusal.{inputNumber}
 use Rattle.refusal.specs.declared.Refusal.{Refusal}
 use Rattle.text.specs.Text.{line}
 

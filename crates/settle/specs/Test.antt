@@ -24,6 +24,11 @@ unfoldable pub same : Bool → Bool → Bool
 same true b = b
 same false b = neg b
 
+-- the first where the test holds, else the second
+abbrev pub pick : {A : Type 0} → Bool → A → A → A
+pick true a b = a
+pick false a b = b
+
 abbrev pub tick : Bool → ℕ → ℕ
 tick true k = suc k
 tick false k = k

@@ -7,7 +7,8 @@ use native.Mathlib.Omega.{arith}
 use borrow.Author.Tests.{eq-eqb, ne-eqb}
 use lib.Dec.{ltb}
 use lib.ListN.{length}
-use Rattle.refusal.specs.Refusal.{sheetRefusal, pick}
+use Rattle.settle.specs.Test.{pick}
+use Rattle.refusal.specs.Refusal.{sheetRefusal}
 use Rattle.sheet.specs.Formula.{Formula}
 use Rattle.sheet.specs.Reading.{nodeAt, Parsed, parsed, wrong, onParsed, operands, parse}
 use Rattle.sheet.specs.Reading.{Sheet, sheet, refused, ending, formulaRead, sheetRead, Fewer}

@@ -7,7 +7,7 @@ use Rattle.settle.specs.Finite.{below}
 use Rattle.settle.specs.Chain.{Monotone, empty, full, chain, Settled, Rounds}
 use Rattle.settle.proofs.Finite.{below-i, below-length}
 use Rattle.settle.proofs.Chain.{least-rounds, greatest-rounds, least-solution, greatest-solution, rounds-unique}
-use Rattle.refusal.specs.Refusal.{pick}
+use Rattle.settle.specs.Test.{pick}
 use Rattle.chart.specs.Chart.{Chart, states, actions}
 use Rattle.chart.specs.Layout.{WellFormed}
 use Rattle.sheet.specs.Formula.{Formula}

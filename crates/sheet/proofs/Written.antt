@@ -9,7 +9,7 @@ use borrow.Author.Tests.{lt-leb, lt-ltb, le-ltb, eq-eqb, ne-eqb}
 use lib.Dec.{ltb, eqb}
 use lib.ListN.{length, getD, drop, length-drop, length-append}
 use lib.Seq.{drop-drop, drop-append-seam}
-use Rattle.refusal.specs.Refusal.{pick}
+use Rattle.settle.specs.Test.{pick}
 use Rattle.sheet.specs.Formula.{Label, only, every, Formula, variable, top, bottom, and, or, diamond, box, nodes}
 use Rattle.sheet.specs.Layout.{labelByte, formulaBytes, LabelIn, LabelsIn}
 use Rattle.sheet.specs.Reading.{nodeAt, leafOf, twoOf, labelOf, oneOf, parsed, parse}

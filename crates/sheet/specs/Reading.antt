@@ -4,7 +4,8 @@ use Prim.Native.Nat.{ℕ, zero, suc, _+_, _-_, _<_}
 use mathlib.Core.List.{List}
 use lib.ListN.{length, getD}
 use lib.Dec.{ltb, leb, eqb}
-use Rattle.refusal.specs.Refusal.{sheetRefusal, pick}
+use Rattle.settle.specs.Test.{pick}
+use Rattle.refusal.specs.Refusal.{sheetRefusal}
 use Rattle.refusal.specs.declared.Refusal.{Refusal}
 use Rattle.sheet.specs.Formula.{Label, only, every, Formula, variable, top, bottom, and, or, diamond, box}
 use Rattle.sheet.specs.declared.Node.{Node}

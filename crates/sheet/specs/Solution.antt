@@ -4,7 +4,7 @@ use mathlib.Core.Bool.{Bool, true, false}
 use lib.Dec.{eqb}
 use Rattle.settle.specs.Finite.{below}
 use Rattle.settle.specs.Chain.{empty, full, chain, LeastSolution, GreatestSolution, Rounds}
-use Rattle.refusal.specs.Refusal.{pick}
+use Rattle.settle.specs.Test.{pick}
 use Rattle.chart.specs.Chart.{Chart, states, actions}
 use Rattle.sheet.specs.Formula.{Formula}
 use Rattle.sheet.specs.Meaning.{holds}

@@ -1,8 +1,6 @@
-use refusal::Input;
 use refusal::Refusal;
 ghost use mathlib.Core.Path.{_≡_};
 ghost use Prim.Native.Nat.{ℕ, _≤_};
-ghost use Rattle.refusal.specs.Refusal.{sheetRefusal};
 ghost use Rattle.sheet.specs.Reading.{nodeAt, parse, formulaRead, Fewer, readNodes, readSheet, sheetRead};
 
 // A node at a place, with its action byte where it has one and the place after it.
@@ -30,23 +28,12 @@ pub enum SheetRead {
     Refused(Refusal),
 }
 
-// The refusal of a sheet.
-fn refuse(number: u8, place: usize) -> Refusal
-    ensures { λ r. ⌜ r ≡ sheetRefusal number place ⌝ }
-{
-    Refusal {
-        input: Input::Sheet,
-        number,
-        place,
-    }
-}
-
 // The node at a place, for a chart of m actions.
 pub fn node_at(bytes: &[u8], m: usize, at: usize) -> Node
     ensures { λ r. ⌜ r ≡ nodeAt (now (bytes .entry)) m at ⌝ }
 {
     if bytes.len() <= at {
-        return Node::Bad(refuse(1, bytes.len()));
+        return Node::Bad(refusal::of_sheet(1, bytes.len()));
     }
     let node = bytes[at];
     if node < 3 {
@@ -56,10 +43,10 @@ pub fn node_at(bytes: &[u8], m: usize, at: usize) -> Node
         return Node::Two(node, at + 1);
     }
     if 6 < node {
-        return Node::Bad(refuse(11, at));
+        return Node::Bad(refusal::of_sheet(11, at));
     }
     if bytes.len() <= at + 1 {
-        return Node::Bad(refuse(1, bytes.len()));
+        return Node::Bad(refusal::of_sheet(1, bytes.len()));
     }
     let action = bytes[at + 1];
     if (action as usize) < m {
@@ -68,7 +55,7 @@ pub fn node_at(bytes: &[u8], m: usize, at: usize) -> Node
     if action == 255 {
         return Node::One(node, action, at + 2);
     }
-    Node::Bad(refuse(12, at + 1))
+    Node::Bad(refusal::of_sheet(12, at + 1))
 }
 
 // The formula at a place, of at most left nodes. Nodes used up are told before the next byte is looked at.
@@ -77,7 +64,7 @@ pub fn read_formula(bytes: &[u8], m: usize, at: usize, left: usize) -> FormulaRe
     ensures { λ r. ⌜ Fewer left r ⌝ }
 {
     if left == 0 {
-        return FormulaRead::Wrong(refuse(13, at));
+        return FormulaRead::Wrong(refusal::of_sheet(13, at));
     }
     match node_at(bytes, m, at) {
         Node::Bad(r) => FormulaRead::Wrong(r),
@@ -95,23 +82,23 @@ fn read_nodes(bytes: &[u8], m: usize, kind: u8) -> SheetRead
     ensures { λ r. ⌜ r ≡ sheetRead (readNodes (now (bytes .entry)) m kind) ⌝ }
 {
     if bytes.len() <= 2 {
-        return SheetRead::Refused(refuse(1, bytes.len()));
+        return SheetRead::Refused(refusal::of_sheet(1, bytes.len()));
     }
     let nodes = bytes[2] as usize;
     if nodes < 1 {
-        return SheetRead::Refused(refuse(10, 2));
+        return SheetRead::Refused(refusal::of_sheet(10, 2));
     }
     if 200 < nodes {
-        return SheetRead::Refused(refuse(10, 2));
+        return SheetRead::Refused(refusal::of_sheet(10, 2));
     }
     match read_formula(bytes, m, 3, nodes) {
         FormulaRead::Wrong(r) => SheetRead::Refused(r),
         FormulaRead::Formula(after, rest) => {
             if 0 < rest {
-                return SheetRead::Refused(refuse(13, after));
+                return SheetRead::Refused(refusal::of_sheet(13, after));
             }
             if after < bytes.len() {
-                return SheetRead::Refused(refuse(8, after));
+                return SheetRead::Refused(refusal::of_sheet(8, after));
             }
             SheetRead::Sheet(Outline { kind, nodes })
         }
@@ -123,17 +110,17 @@ pub fn read_sheet(bytes: &[u8], m: usize) -> SheetRead
     ensures { λ r. ⌜ r ≡ sheetRead (readSheet (now (bytes .entry)) m) ⌝ }
 {
     if bytes.len() <= 0 {
-        return SheetRead::Refused(refuse(1, bytes.len()));
+        return SheetRead::Refused(refusal::of_sheet(1, bytes.len()));
     }
     if bytes[0] != 1 {
-        return SheetRead::Refused(refuse(9, 0));
+        return SheetRead::Refused(refusal::of_sheet(9, 0));
     }
     if bytes.len() <= 1 {
-        return SheetRead::Refused(refuse(1, bytes.len()));
+        return SheetRead::Refused(refusal::of_sheet(1, bytes.len()));
     }
     let kind = bytes[1];
     if 2 < kind {
-        return SheetRead::Refused(refuse(9, 1));
+        return SheetRead::Refused(refusal::of_sheet(9, 1));
     }
     read_nodes(bytes, m, kind)
 }

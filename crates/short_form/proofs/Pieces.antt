@@ -6,7 +6,7 @@ use mathlib.Core.List.{List, [], _∷_, _++_}
 use native.Mathlib.Omega.{arith}
 use lib.Dec.{eqb}
 use lib.ListN.{length, drop, length-append}
-use Rattle.refusal.specs.Refusal.{pick}
+use Rattle.settle.specs.Test.{pick}
 use Rattle.sheet.specs.Formula.{Formula, nodes}
 use Rattle.sheet.specs.Layout.{labelByte, formulaBytes, encode}
 use Rattle.short_form.specs.ShortForm.{always, possible, safePath, eventually, shortForm, kindWritten}

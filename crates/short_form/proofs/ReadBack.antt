@@ -8,7 +8,8 @@ use borrow.Author.Tests.{ltb-false}
 use lib.Dec.{ltb, eqb}
 use lib.ListN.{length, take, drop}
 use lib.Seq.{take-at, drop-at}
-use Rattle.refusal.specs.Refusal.{lentRefusal, sheetRefusal, pick}
+use Rattle.settle.specs.Test.{pick}
+use Rattle.refusal.specs.Refusal.{lentRefusal, sheetRefusal}
 use Rattle.refusal.specs.declared.Refusal.{Refusal}
 use Rattle.chart.specs.Reading.{readChart}
 use Rattle.chart.specs.declared.Shape.{Shape}

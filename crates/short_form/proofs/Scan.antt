@@ -8,8 +8,7 @@ use native.Mathlib.Numerals.{add-one}
 use lib.Dec.{eqb, ltb}
 use lib.ListN.{length, getD, drop, length-append, drop-of-length-le}
 use lib.Seq.{drop-cons}
-use Rattle.refusal.specs.Refusal.{pick}
-use Rattle.settle.specs.Test.{both}
+use Rattle.settle.specs.Test.{pick, both}
 use Rattle.sheet.specs.Formula.{Formula, variable, top, bottom, and, or, diamond, box, variableFree}
 use Rattle.sheet.specs.Layout.{formulaBytes, encode}
 use Rattle.short_form.specs.Promise.{beforeVariable}

@@ -3,7 +3,7 @@
 use Prim.Native.Nat.{ℕ}
 use mathlib.Core.List.{List, [], _∷_}
 use lib.Dec.{eqb}
-use Rattle.refusal.specs.Refusal.{pick}
+use Rattle.settle.specs.Test.{pick}
 
 abbrev pub operatorOf : ℕ → ℕ
 operatorOf name = pick (eqb name 0) 3 (pick (eqb name 1) 4 (pick (eqb name 2) 3 4))

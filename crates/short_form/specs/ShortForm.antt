@@ -1,7 +1,7 @@
 -- Document 01's four short forms: the kind and the formula of the sheet that is written, for F without variable and a name.
 use Prim.Native.Nat.{ℕ}
 use lib.Dec.{eqb}
-use Rattle.refusal.specs.Refusal.{pick}
+use Rattle.settle.specs.Test.{pick}
 use Rattle.sheet.specs.Formula.{every, Formula, variable, bottom, and, or, diamond, box}
 
 -- Names 0 to 2 follow 001; name 3 is the house form

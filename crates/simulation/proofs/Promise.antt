@@ -8,7 +8,7 @@ use native.Mathlib.Decide.{ℕ-discrete}
 use lib.ListN.{length}
 use Rattle.settle.specs.Finite.{pairs}
 use Rattle.settle.specs.Chain.{Settled}
-use Rattle.refusal.specs.Refusal.{pick}
+use Rattle.settle.specs.Test.{pick}
 use Rattle.refusal.specs.declared.Refusal.{Refusal}
 use Rattle.chart.specs.Chart.{Step}
 use Rattle.chart.specs.Reading.{readChart}

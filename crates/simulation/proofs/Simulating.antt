@@ -10,11 +10,10 @@ use borrow.Author.Count.{below-more}
 use lib.Dec.{eqb}
 use lib.ListN.{length, getD, set, length-set}
 use lib.Seq.{getD-set-same, getD-set-other}
-use Rattle.settle.specs.Test.{both, neg}
+use Rattle.settle.specs.Test.{pick, both, neg}
 use Rattle.settle.specs.Finite.{pairs}
 use Rattle.settle.specs.Chain.{Settled, chain, full}
 use Rattle.settle.proofs.Test.{never}
-use Rattle.refusal.specs.Refusal.{pick}
 use Rattle.chart.specs.Chart.{Step}
 use Rattle.sheet.proofs.Meaning.{TargetsBelow}
 use Rattle.nearness.specs.Relation.{Simulating}

@@ -4,7 +4,7 @@ use mathlib.Core.Path.{_≡_}
 use mathlib.Core.List.{List}
 use lib.Dec.{eqb}
 use lib.ListN.{length, getD}
-use Rattle.refusal.specs.Refusal.{pick}
+use Rattle.settle.specs.Test.{pick}
 use Rattle.chart.specs.Chart.{Step}
 use Rattle.nearness.specs.Relation.{Simulating}
 use Rattle.relation.specs.Working as Relation

@@ -8,7 +8,7 @@ ghost use mathlib.Core.Path.{_≡_};
 ghost use Prim.Native.Nat.{_*_, _≤_, _<_};
 ghost use lib.Dec.{eqb};
 ghost use lib.ListN.{length};
-ghost use Rattle.refusal.specs.Refusal.{pick};
+ghost use Rattle.settle.specs.Test.{pick};
 ghost use Rattle.chart.specs.Reading.{stepsAt};
 ghost use Rattle.relation.specs.Sources.{Stands};
 ghost use Rattle.simulation.specs.Promise.{SimulationPromise};

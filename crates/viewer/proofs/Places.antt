@@ -7,7 +7,8 @@ use native.Mathlib.Omega.{arith}
 use native.Mathlib.Decide.{decLt}
 use lib.Dec.{ltb}
 use lib.ListN.{length}
-use Rattle.refusal.specs.Refusal.{pick, sheetRefusal, lentRefusal}
+use Rattle.settle.specs.Test.{pick}
+use Rattle.refusal.specs.Refusal.{sheetRefusal, lentRefusal}
 use Rattle.refusal.specs.declared.Refusal.{Refusal}
 use Rattle.chart.specs.Reading.{readChart}
 use Rattle.chart.specs.declared.Shape.{Shape}

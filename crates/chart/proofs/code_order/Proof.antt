@@ -18,11 +18,11 @@ shared-slice-read-if2-2 c = search needs
 returns-2 : tie.Need-returns-2
 returns-2 c = rw (ne-eqb _ _ (c .before .before .before .if1 .left), lt-ltb _ _ (c .if2 .taken))
 
-refuse-requires : tie.Need-refuse-requires
-refuse-requires c κs = search needs
+of-chart-requires : tie.Need-of-chart-requires
+of-chart-requires c κs = search needs
 
 returns-3 : tie.Need-returns-3
-returns-3 c = rw (ne-eqb _ _ (c .before .before .before .before .if1 .left), le-ltb _ _ (c .before .if2 .left), c .refuse .ensures)
+returns-3 c = rw (ne-eqb _ _ (c .before .before .before .before .if1 .left), le-ltb _ _ (c .before .if2 .left), c .of-chart .ensures)
 
 pub code-order-spec : {M : Type 1} → statement M
 code-order-spec =
@@ -33,5 +33,5 @@ code-order-spec =
     shared-slice-read-if2
     shared-slice-read-if2-2
     returns-2
-    refuse-requires
+    of-chart-requires
     returns-3)

@@ -18,11 +18,11 @@ abbrev μ-loop : tie.MeasureT-loop
 loop-holds : tie.Need-loop-holds Inv-loop μ-loop
 loop-holds c = let e : c .before .args .m - 0 ≡ c .before .args .m = omega arith in (rw e, omega arith)
 
-refuse-requires : tie.Need-refuse-requires Inv-loop μ-loop
-refuse-requires c κs = search needs
+of-chart-requires : tie.Need-of-chart-requires Inv-loop μ-loop
+of-chart-requires c κs = search needs
 
 returns : tie.Need-returns Inv-loop μ-loop
-returns c = rw (c .before .before .before .loop .inv .0, codes-step _ _ _ _ (c .before .before .loop-test .taken), le-leb _ _ (c .before .if1 .taken), c .refuse .ensures)
+returns c = rw (c .before .before .before .loop .inv .0, codes-step _ _ _ _ (c .before .before .loop-test .taken), le-leb _ _ (c .before .if1 .taken), c .of-chart .ensures)
 
 code-order-requires : tie.Need-code-order-requires Inv-loop μ-loop
 code-order-requires c κs = search needs
@@ -58,7 +58,7 @@ judge-codes-spec =
     Inv-loop
     μ-loop
     loop-holds
-    refuse-requires
+    of-chart-requires
     returns
     code-order-requires
     enum-told

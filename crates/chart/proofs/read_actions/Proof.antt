@@ -5,12 +5,12 @@ use Rattle.chart.specs.Reading.{readActions}
 use Rattle.chart.proofs.read_actions.Statement.{statement}
 use Rattle.chart.proofs.read_actions.Tie as tie
 
-refuse-requires : tie.Need-refuse-requires
-refuse-requires c κs = search needs
+of-chart-requires : tie.Need-of-chart-requires
+of-chart-requires c κs = search needs
 
 returns : tie.Need-returns
 unfolding readActions
-returns c = rw (le-leb _ _ (c .before .if1 .taken), c .refuse .ensures)
+returns c = rw (le-leb _ _ (c .before .if1 .taken), c .of-chart .ensures)
 
 shared-slice-read-m : tie.Need-shared-slice-read-m
 shared-slice-read-m c = search needs
@@ -18,12 +18,12 @@ shared-slice-read-m c = search needs
 cast-m : tie.Need-cast-m
 cast-m c = omega (arith, c .shared-slice-known2 .given (c .before .before .before .args .p))
 
-refuse-requires-2 : tie.Need-refuse-requires-2
-refuse-requires-2 c κs = search needs
+of-chart-requires-2 : tie.Need-of-chart-requires-2
+of-chart-requires-2 c κs = search needs
 
 returns-2 : tie.Need-returns-2
 unfolding readActions
-returns-2 c = rw (lt-leb _ _ (c .before .before .before .if1 .left), lt-ltb _ _ (c .before .if2 .taken), c .refuse2 .ensures)
+returns-2 c = rw (lt-leb _ _ (c .before .before .before .if1 .left), lt-ltb _ _ (c .before .if2 .taken), c .of-chart2 .ensures)
 
 add-judge-codes : tie.Need-add-judge-codes
 add-judge-codes c = search needs
@@ -58,11 +58,11 @@ pub read-actions-spec : {M : Type 1} → statement M
 read-actions-spec =
     tie.close
     (tie.spec
-    refuse-requires
+    of-chart-requires
     returns
     shared-slice-read-m
     cast-m
-    refuse-requires-2
+    of-chart-requires-2
     returns-2
     add-judge-codes
     judge-codes-requires

@@ -5,12 +5,12 @@ use Rattle.chart.specs.Reading.{readChart}
 use Rattle.chart.proofs.read_chart.Statement.{statement}
 use Rattle.chart.proofs.read_chart.Tie as tie
 
-refuse-requires : tie.Need-refuse-requires
-refuse-requires c κs = search needs
+of-chart-requires : tie.Need-of-chart-requires
+of-chart-requires c κs = search needs
 
 returns : tie.Need-returns
 unfolding readChart
-returns c = rw (le-leb _ _ (c .before .if1 .taken), c .refuse .ensures)
+returns c = rw (le-leb _ _ (c .before .if1 .taken), c .of-chart .ensures)
 
 shared-slice-read-n : tie.Need-shared-slice-read-n
 shared-slice-read-n c = search needs
@@ -18,26 +18,26 @@ shared-slice-read-n c = search needs
 cast-n : tie.Need-cast-n
 cast-n c = omega (arith, c .shared-slice-known2 .given 0)
 
-refuse-requires-2 : tie.Need-refuse-requires-2
-refuse-requires-2 c κs = search needs
+of-chart-requires-2 : tie.Need-of-chart-requires-2
+of-chart-requires-2 c κs = search needs
 
 returns-2 : tie.Need-returns-2
 unfolding readChart
-returns-2 c = rw (lt-leb _ _ (c .before .before .before .if1 .left), lt-ltb _ _ (c .before .if2 .taken), c .refuse2 .ensures)
+returns-2 c = rw (lt-leb _ _ (c .before .before .before .if1 .left), lt-ltb _ _ (c .before .if2 .taken), c .of-chart2 .ensures)
 
-refuse-requires-3 : tie.Need-refuse-requires-3
-refuse-requires-3 c κs = search needs
+of-chart-requires-3 : tie.Need-of-chart-requires-3
+of-chart-requires-3 c κs = search needs
 
 returns-3 : tie.Need-returns-3
 unfolding readChart
-returns-3 c = rw (lt-leb _ _ (c .before .before .before .before .if1 .left), le-ltb _ _ (c .before .before .if2 .left), lt-ltb _ _ (c .before .if3 .taken), c .refuse3 .ensures)
+returns-3 c = rw (lt-leb _ _ (c .before .before .before .before .if1 .left), le-ltb _ _ (c .before .before .if2 .left), lt-ltb _ _ (c .before .if3 .taken), c .of-chart3 .ensures)
 
-refuse-requires-4 : tie.Need-refuse-requires-4
-refuse-requires-4 c κs = search needs
+of-chart-requires-4 : tie.Need-of-chart-requires-4
+of-chart-requires-4 c κs = search needs
 
 returns-4 : tie.Need-returns-4
 unfolding readChart
-returns-4 c = rw (lt-leb _ _ (c .before .before .before .before .before .if1 .left), le-ltb _ _ (c .before .before .before .if2 .left), le-ltb _ _ (c .before .before .if3 .left), le-leb _ _ (c .before .if4 .taken), c .refuse4 .ensures)
+returns-4 c = rw (lt-leb _ _ (c .before .before .before .before .before .if1 .left), le-ltb _ _ (c .before .before .before .if2 .left), le-ltb _ _ (c .before .before .if3 .left), le-leb _ _ (c .before .if4 .taken), c .of-chart4 .ensures)
 
 add-read-actions : tie.Need-add-read-actions
 add-read-actions c = search needs
@@ -53,15 +53,15 @@ pub read-chart-spec : {M : Type 1} → statement M
 read-chart-spec =
     tie.close
     (tie.spec
-    refuse-requires
+    of-chart-requires
     returns
     shared-slice-read-n
     cast-n
-    refuse-requires-2
+    of-chart-requires-2
     returns-2
-    refuse-requires-3
+    of-chart-requires-3
     returns-3
-    refuse-requires-4
+    of-chart-requires-4
     returns-4
     add-read-actions
     read-actions-requires

@@ -6,22 +6,22 @@ use Rattle.chart.specs.Reading.{readTransitions}
 use Rattle.chart.proofs.read_transitions.Statement.{statement}
 use Rattle.chart.proofs.read_transitions.Tie as tie
 
-refuse-requires : tie.Need-refuse-requires
-refuse-requires c κs = search needs
+of-chart-requires : tie.Need-of-chart-requires
+of-chart-requires c κs = search needs
 
 returns : tie.Need-returns
 unfolding readTransitions
-returns c = rw (le-leb _ _ (c .before .if1 .taken), c .refuse .ensures)
+returns c = rw (le-leb _ _ (c .before .if1 .taken), c .of-chart .ensures)
 
 add-next : tie.Need-add-next
 add-next c = search needs
 
-refuse-requires-2 : tie.Need-refuse-requires-2
-refuse-requires-2 c κs = search needs
+of-chart-requires-2 : tie.Need-of-chart-requires-2
+of-chart-requires-2 c κs = search needs
 
 returns-2 : tie.Need-returns-2
 unfolding readTransitions
-returns-2 c = rw (lt-leb _ _ (c .before .before .if1 .left), le-leb _ _ (c .before .if2 .taken), c .refuse2 .ensures)
+returns-2 c = rw (lt-leb _ _ (c .before .before .if1 .left), le-leb _ _ (c .before .if2 .taken), c .of-chart2 .ensures)
 
 shared-slice-read-low : tie.Need-shared-slice-read-low
 shared-slice-read-low c = search needs
@@ -41,12 +41,12 @@ mul-t c = omega (arith, c .shared-slice-known3 .given (c .before .before .before
 add-t : tie.Need-add-t
 add-t c = omega (arith, c .before .shared-slice-known2 .given (c .before .before .before .before .before .args .p), c .shared-slice-known3 .given (c .before .before .before .before .before .args .p + 1))
 
-refuse-requires-3 : tie.Need-refuse-requires-3
-refuse-requires-3 c κs = search needs
+of-chart-requires-3 : tie.Need-of-chart-requires-3
+of-chart-requires-3 c κs = search needs
 
 returns-3 : tie.Need-returns-3
 unfolding readTransitions
-returns-3 c = rw (lt-leb _ _ (c .before .before .before .before .before .if1 .left), lt-leb _ _ (c .before .before .before .before .if2 .left), lt-ltb _ _ (c .before .if3 .taken), c .refuse3 .ensures)
+returns-3 c = rw (lt-leb _ _ (c .before .before .before .before .before .if1 .left), lt-leb _ _ (c .before .before .before .before .if2 .left), lt-ltb _ _ (c .before .if3 .taken), c .of-chart3 .ensures)
 
 add-judge-triples : tie.Need-add-judge-triples
 add-judge-triples c = search needs
@@ -73,12 +73,12 @@ mul-end c = search needs
 add-end-2 : tie.Need-add-end-2
 add-end-2 c = search needs
 
-refuse-requires-4 : tie.Need-refuse-requires-4
-refuse-requires-4 c κs = search needs
+of-chart-requires-4 : tie.Need-of-chart-requires-4
+of-chart-requires-4 c κs = search needs
 
 returns-5 : tie.Need-returns-5
 unfolding readTransitions
-returns-5 c = rw (lt-leb _ _ (c .before .before .before .before .before .before .before .before .before .if1 .left), lt-leb _ _ (c .before .before .before .before .before .before .before .before .if2 .left), le-ltb _ _ (c .before .before .before .before .before .if3 .left), ← c .before .before .before .before .judge-triples .ensures, c .before .before .enum-told .given .1, lt-ltb _ _ (c .before .if4 .taken), c .refuse4 .ensures)
+returns-5 c = rw (lt-leb _ _ (c .before .before .before .before .before .before .before .before .before .if1 .left), lt-leb _ _ (c .before .before .before .before .before .before .before .before .if2 .left), le-ltb _ _ (c .before .before .before .before .before .if3 .left), ← c .before .before .before .before .judge-triples .ensures, c .before .before .enum-told .given .1, lt-ltb _ _ (c .before .if4 .taken), c .of-chart4 .ensures)
 
 returns-6 : tie.Need-returns-6
 unfolding readTransitions
@@ -88,10 +88,10 @@ pub read-transitions-spec : {M : Type 1} → statement M
 read-transitions-spec =
     tie.close
     (tie.spec
-    refuse-requires
+    of-chart-requires
     returns
     add-next
-    refuse-requires-2
+    of-chart-requires-2
     returns-2
     shared-slice-read-low
     cast-low
@@ -99,7 +99,7 @@ read-transitions-spec =
     cast-high
     mul-t
     add-t
-    refuse-requires-3
+    of-chart-requires-3
     returns-3
     add-judge-triples
     judge-triples-requires
@@ -109,6 +109,6 @@ read-transitions-spec =
     add-end
     mul-end
     add-end-2
-    refuse-requires-4
+    of-chart-requires-4
     returns-5
     returns-6)

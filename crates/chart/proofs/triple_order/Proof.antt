@@ -15,13 +15,13 @@ is-earlier-requires c κs = search needs
 returns-2 : tie.Need-returns-2
 returns-2 c = rw (ne-eqb _ _ (c .before .before .if1 .left), ← c .before .is-earlier .ensures, c .if2 .taken)
 
-refuse-requires : tie.Need-refuse-requires
-refuse-requires c κs = search needs
+of-chart-requires : tie.Need-of-chart-requires
+of-chart-requires c κs = search needs
 
 returns-3 : tie.Need-returns-3
-returns-3 c = rw (ne-eqb _ _ (c .before .before .before .if1 .left), ← c .before .before .is-earlier .ensures, c .before .if2 .left, c .refuse .ensures)
+returns-3 c = rw (ne-eqb _ _ (c .before .before .before .if1 .left), ← c .before .before .is-earlier .ensures, c .before .if2 .left, c .of-chart .ensures)
 
 pub triple-order-spec : {M : Type 1} → statement M
 triple-order-spec =
     tie.close
-    (tie.spec returns sub-is-earlier is-earlier-requires returns-2 refuse-requires returns-3)
+    (tie.spec returns sub-is-earlier is-earlier-requires returns-2 of-chart-requires returns-3)

@@ -8,7 +8,7 @@ use Rattle.sheet.proofs.read_formula.Reads as read-formula
 use Rattle.sheet.proofs.read_formula.Kinds as read-formula-kinds
 use Rattle.sheet.proofs.+read_formula.Lts-read_formula as read-formula-lts
 use Rattle.sheet.proofs.node_at.Reads as node-at-reads
-use Rattle.sheet.proofs.refuse.Reads as refuse-reads
+use Rattle.refusal.proofs.of_sheet.Reads as of-sheet-reads
 use Rattle.sheet.proofs.+read_formula.{statement}
 use Rattle.sheet.proofs.+read_formula.Tie.{close}
 
@@ -30,8 +30,8 @@ read-formula-below t =
 
 pub +read-formula-spec : {M : Type 1} → statement M
 +read-formula-spec = close μ-read-formula λ t. read-formula-lts.spec (
-  refuse-reads.Asked,
-  refuse-reads.Learnt,
+  of-sheet-reads.Asked,
+  of-sheet-reads.Learnt,
   node-at-reads.Asked,
   node-at-reads.Learnt,
   read-formula-below t,
@@ -40,7 +40,7 @@ pub +read-formula-spec : {M : Type 1} → statement M
     (read-formula-at t)
     read-formula.Post
     (λ c κs. search needs)
-    (λ c. (λ fuel h. rw (parse-none _ _ _ _ _ (c .before .if1 .taken), c .refuse .ensures), tt))
+    (λ c. (λ fuel h. rw (parse-none _ _ _ _ _ (c .before .if1 .taken), c .of-sheet .ensures), tt))
     (λ c κs. search needs)
     (λ c. search needs)
     (λ c. search needs)

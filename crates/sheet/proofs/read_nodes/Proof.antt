@@ -9,12 +9,12 @@ use borrow.Author.Needs.{needs}
 use Rattle.sheet.proofs.read_nodes.Statement.{statement}
 use Rattle.sheet.proofs.read_nodes.Tie as tie
 
-refuse-requires : tie.Need-refuse-requires
-refuse-requires c κs = search needs
+of-sheet-requires : tie.Need-of-sheet-requires
+of-sheet-requires c κs = search needs
 
 returns : tie.Need-returns
 unfolding readNodes
-returns c = rw (le-leb _ _ (c .before .if1 .taken)) (ap Read.Refused (c .refuse .ensures))
+returns c = rw (le-leb _ _ (c .before .if1 .taken)) (ap Read.Refused (c .of-sheet .ensures))
 
 shared-slice-read-nodes : tie.Need-shared-slice-read-nodes
 shared-slice-read-nodes c = search needs
@@ -22,19 +22,19 @@ shared-slice-read-nodes c = search needs
 cast-nodes : tie.Need-cast-nodes
 cast-nodes c = omega (arith, c .shared-slice-known2 .given 2)
 
-refuse-requires-2 : tie.Need-refuse-requires-2
-refuse-requires-2 c κs = search needs
+of-sheet-requires-2 : tie.Need-of-sheet-requires-2
+of-sheet-requires-2 c κs = search needs
 
 returns-2 : tie.Need-returns-2
 unfolding readNodes
-returns-2 c = rw (lt-leb _ _ (c .before .before .before .if1 .left), lt-ltb _ _ (c .before .if2 .taken)) (ap Read.Refused (c .refuse2 .ensures))
+returns-2 c = rw (lt-leb _ _ (c .before .before .before .if1 .left), lt-ltb _ _ (c .before .if2 .taken)) (ap Read.Refused (c .of-sheet2 .ensures))
 
-refuse-requires-3 : tie.Need-refuse-requires-3
-refuse-requires-3 c κs = search needs
+of-sheet-requires-3 : tie.Need-of-sheet-requires-3
+of-sheet-requires-3 c κs = search needs
 
 returns-3 : tie.Need-returns-3
 unfolding readNodes
-returns-3 c = rw (lt-leb _ _ (c .before .before .before .before .if1 .left), le-ltb _ _ (c .before .before .if2 .left), lt-ltb _ _ (c .before .if3 .taken)) (ap Read.Refused (c .refuse3 .ensures))
+returns-3 c = rw (lt-leb _ _ (c .before .before .before .before .if1 .left), le-ltb _ _ (c .before .before .if2 .left), lt-ltb _ _ (c .before .if3 .taken)) (ap Read.Refused (c .of-sheet3 .ensures))
 
 read-formula-requires : tie.Need-read-formula-requires
 read-formula-requires c κs = search needs
@@ -45,19 +45,19 @@ enum-known-r c = search needs
 enum-known-after : tie.Need-enum-known-after
 enum-known-after c = search needs
 
-refuse-requires-4 : tie.Need-refuse-requires-4
-refuse-requires-4 c κs = search needs
+of-sheet-requires-4 : tie.Need-of-sheet-requires-4
+of-sheet-requires-4 c κs = search needs
 
 returns-4 : tie.Need-returns-4
 unfolding readNodes
-returns-4 c = rw (lt-leb _ _ (c .before .before .before .before .before .before .before .before .before .if1 .left), le-ltb _ _ (c .before .before .before .before .before .before .before .if2 .left), le-ltb _ _ (c .before .before .before .before .before .before .if3 .left), ending-read, ← c .before .before .before .before .before .read-formula .ensures .0 _ (le-refl _), c .before .before .before .after .given .1, lt-ltb _ _ (c .before .if4 .taken)) (ap Read.Refused (c .refuse4 .ensures))
+returns-4 c = rw (lt-leb _ _ (c .before .before .before .before .before .before .before .before .before .if1 .left), le-ltb _ _ (c .before .before .before .before .before .before .before .if2 .left), le-ltb _ _ (c .before .before .before .before .before .before .if3 .left), ending-read, ← c .before .before .before .before .before .read-formula .ensures .0 _ (le-refl _), c .before .before .before .after .given .1, lt-ltb _ _ (c .before .if4 .taken)) (ap Read.Refused (c .of-sheet4 .ensures))
 
-refuse-requires-5 : tie.Need-refuse-requires-5
-refuse-requires-5 c κs = search needs
+of-sheet-requires-5 : tie.Need-of-sheet-requires-5
+of-sheet-requires-5 c κs = search needs
 
 returns-5 : tie.Need-returns-5
 unfolding readNodes
-returns-5 c = rw (lt-leb _ _ (c .before .before .before .before .before .before .before .before .before .before .if1 .left), le-ltb _ _ (c .before .before .before .before .before .before .before .before .if2 .left), le-ltb _ _ (c .before .before .before .before .before .before .before .if3 .left), ending-read, ← c .before .before .before .before .before .before .read-formula .ensures .0 _ (le-refl _), c .before .before .before .before .after .given .1, le-ltb _ _ (c .before .before .if4 .left), lt-ltb _ _ (c .before .if5 .taken)) (ap Read.Refused (c .refuse5 .ensures))
+returns-5 c = rw (lt-leb _ _ (c .before .before .before .before .before .before .before .before .before .before .if1 .left), le-ltb _ _ (c .before .before .before .before .before .before .before .before .if2 .left), le-ltb _ _ (c .before .before .before .before .before .before .before .if3 .left), ending-read, ← c .before .before .before .before .before .before .read-formula .ensures .0 _ (le-refl _), c .before .before .before .before .after .given .1, le-ltb _ _ (c .before .before .if4 .left), lt-ltb _ _ (c .before .if5 .taken)) (ap Read.Refused (c .of-sheet5 .ensures))
 
 returns-6 : tie.Need-returns-6
 unfolding readNodes
@@ -71,20 +71,20 @@ pub read-nodes-spec : {M : Type 1} → statement M
 read-nodes-spec =
     tie.close
     (tie.spec
-    refuse-requires
+    of-sheet-requires
     returns
     shared-slice-read-nodes
     cast-nodes
-    refuse-requires-2
+    of-sheet-requires-2
     returns-2
-    refuse-requires-3
+    of-sheet-requires-3
     returns-3
     read-formula-requires
     enum-known-r
     enum-known-after
-    refuse-requires-4
+    of-sheet-requires-4
     returns-4
-    refuse-requires-5
+    of-sheet-requires-5
     returns-5
     returns-6
     returns-7)

@@ -6,39 +6,39 @@ use borrow.Author.Needs.{needs}
 use Rattle.sheet.proofs.read_sheet.Statement.{statement}
 use Rattle.sheet.proofs.read_sheet.Tie as tie
 
-refuse-requires : tie.Need-refuse-requires
-refuse-requires c κs = search needs
+of-sheet-requires : tie.Need-of-sheet-requires
+of-sheet-requires c κs = search needs
 
 returns : tie.Need-returns
 unfolding readSheet
-returns c = rw (le-leb _ _ (c .before .if1 .taken)) (ap Read.Refused (c .refuse .ensures))
+returns c = rw (le-leb _ _ (c .before .if1 .taken)) (ap Read.Refused (c .of-sheet .ensures))
 
 shared-slice-read-if2 : tie.Need-shared-slice-read-if2
 shared-slice-read-if2 c = search needs
 
-refuse-requires-2 : tie.Need-refuse-requires-2
-refuse-requires-2 c κs = search needs
+of-sheet-requires-2 : tie.Need-of-sheet-requires-2
+of-sheet-requires-2 c κs = search needs
 
 returns-2 : tie.Need-returns-2
 unfolding readSheet
-returns-2 c = rw (lt-leb _ _ (c .before .before .before .if1 .left), ne-eqb _ _ (c .before .if2 .taken)) (ap Read.Refused (c .refuse2 .ensures))
+returns-2 c = rw (lt-leb _ _ (c .before .before .before .if1 .left), ne-eqb _ _ (c .before .if2 .taken)) (ap Read.Refused (c .of-sheet2 .ensures))
 
-refuse-requires-3 : tie.Need-refuse-requires-3
-refuse-requires-3 c κs = search needs
+of-sheet-requires-3 : tie.Need-of-sheet-requires-3
+of-sheet-requires-3 c κs = search needs
 
 returns-3 : tie.Need-returns-3
 unfolding readSheet
-returns-3 c = rw (lt-leb _ _ (c .before .before .before .before .if1 .left), eq-eqb _ _ (c .before .before .if2 .left), le-leb _ _ (c .before .if3 .taken)) (ap Read.Refused (c .refuse3 .ensures))
+returns-3 c = rw (lt-leb _ _ (c .before .before .before .before .if1 .left), eq-eqb _ _ (c .before .before .if2 .left), le-leb _ _ (c .before .if3 .taken)) (ap Read.Refused (c .of-sheet3 .ensures))
 
 shared-slice-read-kind : tie.Need-shared-slice-read-kind
 shared-slice-read-kind c = search needs
 
-refuse-requires-4 : tie.Need-refuse-requires-4
-refuse-requires-4 c κs = search needs
+of-sheet-requires-4 : tie.Need-of-sheet-requires-4
+of-sheet-requires-4 c κs = search needs
 
 returns-4 : tie.Need-returns-4
 unfolding readSheet
-returns-4 c = rw (lt-leb _ _ (c .before .before .before .before .before .before .if1 .left), eq-eqb _ _ (c .before .before .before .before .if2 .left), lt-leb _ _ (c .before .before .before .if3 .left), lt-ltb _ _ (c .before .if4 .taken)) (ap Read.Refused (c .refuse4 .ensures))
+returns-4 c = rw (lt-leb _ _ (c .before .before .before .before .before .before .if1 .left), eq-eqb _ _ (c .before .before .before .before .if2 .left), lt-leb _ _ (c .before .before .before .if3 .left), lt-ltb _ _ (c .before .if4 .taken)) (ap Read.Refused (c .of-sheet4 .ensures))
 
 read-nodes-requires : tie.Need-read-nodes-requires
 read-nodes-requires c κs = search needs
@@ -51,15 +51,15 @@ pub read-sheet-spec : {M : Type 1} → statement M
 read-sheet-spec =
     tie.close
     (tie.spec
-    refuse-requires
+    of-sheet-requires
     returns
     shared-slice-read-if2
-    refuse-requires-2
+    of-sheet-requires-2
     returns-2
-    refuse-requires-3
+    of-sheet-requires-3
     returns-3
     shared-slice-read-kind
-    refuse-requires-4
+    of-sheet-requires-4
     returns-4
     read-nodes-requires
     returns-5)

@@ -3,7 +3,7 @@ use mathlib.Core.Bool.{Bool, true, false}
 use Prim.Native.Nat.{ℕ}
 use lib.Dec.{eqb}
 use borrow.Author.Tests.{ne-eqb}
-use Rattle.refusal.specs.Refusal.{pick}
+use Rattle.settle.specs.Test.{pick}
 use Rattle.short_form.proofs.more_nodes.Statement.{statement}
 use Rattle.short_form.proofs.more_nodes.Tie as tie
 

@@ -5,7 +5,7 @@ use mathlib.Core.List.{[], _∷_}
 use lib.Dec.{eqb}
 use lib.ListN.{length}
 use borrow.Author.Tests.{ne-eqb}
-use Rattle.refusal.specs.Refusal.{pick}
+use Rattle.settle.specs.Test.{pick}
 use Rattle.short_form.proofs.operand_size.Statement.{statement}
 use Rattle.short_form.proofs.operand_size.Tie as tie
 
