@@ -22,14 +22,15 @@ use Rattle.relation.specs.declared.MatrixAnswer.{MatrixAnswer}
 use Rattle.relation.specs.declared.MatrixAnswer.the-variants as Answer
 use Rattle.relation.proofs.Cells.{cell-in, cell-pair}
 use Rattle.relation.proofs.Promise as Matrices
-use Rattle.marks.specs.Promise.{markAt, MarksOf, MarksPromise}
+use Rattle.relation.specs.Promise.{byteAt}
+use Rattle.marks.specs.Promise.{MarksOf, MarksPromise}
 use Rattle.marks.specs.Working.{Working}
 
 -- ---- what the worked out marks mean
 
 module _ (n m : ℕ) (steps : List Step) (some-state : 0 < n) (targets : TargetsBelow n steps) {old new : List ℕ} {given : Matrix} (w : Working steps n old new given) where
-  mark-of : (p q : ℕ) → p < n → q < n → Mark steps p q (markAt n new p q)
-  mark-of p q h k = let e = cell-pair n p q k in subst (λ (x : ℕ × ℕ). Mark steps (x .0) (x .1) (markAt n new p q)) e (w .cells (p * n + q) (cell-in n p q h k))
+  mark-of : (p q : ℕ) → p < n → q < n → Mark steps p q (byteAt n new p q)
+  mark-of p q h k = let e = cell-pair n p q k in subst (λ (x : ℕ × ℕ). Mark steps (x .0) (x .1) (byteAt n new p q)) e (w .cells (p * n + q) (cell-in n p q h k))
 
   deep : (p q d : ℕ) → (d ≡ 0 → ⊥) → Mark steps p q d → SmallestDepth m steps p q d
   deep p q zero f h = absurd (f refl)
@@ -66,7 +67,7 @@ never-15 = Matrices.never-15 settles
 
 -- ---- any two answers, and any two buffers, that the promise allows for the same input are equal
 
-alike : (n m : ℕ) (steps : List Step) (a b : List ℕ) (g h : Matrix) → MarksOf n m steps a g → MarksOf n m steps b h → (g ≡ h) × ((p q : ℕ) → p < n → q < n → markAt n a p q ≡ markAt n b p q)
+alike : (n m : ℕ) (steps : List Step) (a b : List ℕ) (g h : Matrix) → MarksOf n m steps a g → MarksOf n m steps b h → (g ≡ h) × ((p q : ℕ) → p < n → q < n → byteAt n a p q ≡ byteAt n b p q)
 alike n m steps a b g h s u = (
   Matrices.same-matrix n (Near steps) g h (s .states-said) (u .states-said) (s .rounds-are) (u .rounds-are),
   λ p q i j. mark-unique steps p q _ _ (s .marks-are p q i j) (u .marks-are p q i j),

@@ -1,6 +1,6 @@
 -- What a question promises that answers by a matrix, for every chart and every lent buffer. Marks and simulation each give what the matrix has to
 -- say (Says) and the relations of which the rounds are counted (R).
-use Prim.Native.Nat.{ℕ, _*_, _≤_, _<_}
+use Prim.Native.Nat.{ℕ, _+_, _*_, _≤_, _<_}
 use mathlib.Core.Path.{_≡_}
 use mathlib.Core.List.{List}
 use lib.ListN.{length, getD}
@@ -16,6 +16,10 @@ use Rattle.nearness.specs.Relation.{Relation}
 use Rattle.relation.specs.declared.Matrix.{Matrix}
 use Rattle.relation.specs.declared.MatrixAnswer.{MatrixAnswer}
 use Rattle.relation.specs.declared.MatrixAnswer.the-variants as Answer
+
+-- the byte of the pair (p, q) in a matrix of n states
+abbrev pub byteAt : ℕ → List ℕ → ℕ → ℕ → ℕ
+byteAt n bytes p q = getD bytes (p * n + q) 0
 
 -- what the bytes and what is said of them are, for a chart of n states and m actions with these steps
 abbrev pub Saying : Type 1

@@ -3,11 +3,11 @@ use mathlib.Core.Path.{_≡_, refl}
 use mathlib.Core.List.{[], _∷_, _++_}
 use Rattle.refusal.specs.Refusal.{chartRefusal}
 use Rattle.text.specs.Text.{digits, decimal, line}
-use Rattle.marks.specs.Promise.{markAt}
+use Rattle.relation.specs.Promise.{byteAt}
 use Rattle.report.specs.Text.{refusedText, pairText, rowText, rowsText, chartText}
 
 -- chart L
-pub printed-of-L : chartText 3 2 (markAt 3 (0 ∷ 2 ∷ 1 ∷ 2 ∷ 0 ∷ 1 ∷ 1 ∷ 1 ∷ 0 ∷ []))
+pub printed-of-L : chartText 3 2 (byteAt 3 (0 ∷ 2 ∷ 1 ∷ 2 ∷ 0 ∷ 1 ∷ 1 ∷ 1 ∷ 0 ∷ []))
     ≡ (115 ∷ 116 ∷ 97 ∷ 116 ∷ 101 ∷ 115 ∷ 32 ∷ 51 ∷ 10 ∷ [])
     ++ ((114 ∷ 111 ∷ 117 ∷ 110 ∷ 100 ∷ 115 ∷ 32 ∷ 50 ∷ 10 ∷ [])
     ++ (48 ∷ 32 ∷ 49 ∷ 32 ∷ 50 ∷ 10 ∷ 48 ∷ 32 ∷ 50 ∷ 32 ∷ 49 ∷ 10 ∷ 49 ∷ 32 ∷ 50 ∷ 32 ∷ 49 ∷ 10 ∷ []))

@@ -25,7 +25,8 @@ use Rattle.relation.specs.declared.Matrix.{Matrix}
 use Rattle.relation.specs.declared.MatrixAnswer.{MatrixAnswer}
 use Rattle.relation.specs.declared.MatrixAnswer.the-variants as Answer
 use Rattle.relation.proofs.Ranges.{stands-chart, targets-below}
-use Rattle.marks.specs.Promise.{markAt, MarksOf, MarksPromise}
+use Rattle.relation.specs.Promise.{byteAt}
+use Rattle.marks.specs.Promise.{MarksOf, MarksPromise}
 use Rattle.marks.proofs.Promise.{always-answered}
 use Rattle.text.specs.Text.{placed}
 use Rattle.text.proofs.Laws.{Put}
@@ -135,15 +136,15 @@ module _ (chart old new : List ℕ) (answer : MatrixAnswer) (p : MarksPromise ch
   pub report-refused : (r : Refusal) → answer ≡ Answer.Refused r → ReportOf chart (refusedText r)
   report-refused r a = rw (chart-refused r a) refl
 
-  pub report-marked : (given : Matrix) → answer ≡ Answer.Given given → ReportOf chart (chartText (given .states) (given .rounds) (markAt (given .states) new))
+  pub report-marked : (given : Matrix) → answer ≡ Answer.Given given → ReportOf chart (chartText (given .states) (given .rounds) (byteAt (given .states) new))
   report-marked given a =
       let m = chart-marked given a in
       rw (m .1) (record {
         rounds = given .rounds;
-        mark = markAt (m .0 .n) new;
+        mark = byteAt (m .0 .n) new;
         rounds-are = m .2 .rounds-are;
         marks-are = m .2 .marks-are;
-        text-is = ap (λ (k : ℕ). chartText k (given .rounds) (markAt k new)) (m .2 .states-said);
+        text-is = ap (λ (k : ℕ). chartText k (given .rounds) (byteAt k new)) (m .2 .states-said);
       })
 
   -- and its matrix is inside the buffer

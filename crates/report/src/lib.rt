@@ -7,7 +7,7 @@ ghost use mathlib.Core.List.{[], _∷_, _++_};
 ghost use Prim.Native.Nat.{_+_, _-_, _*_, _≤_, _<_};
 ghost use lib.ListN.{length};
 ghost use Rattle.refusal.specs.Refusal.{inputNumber};
-ghost use Rattle.marks.specs.Promise.{markAt};
+ghost use Rattle.relation.specs.Promise.{byteAt};
 ghost use Rattle.text.specs.Text.{line, placed};
 ghost use Rattle.report.specs.Text.{refusedText, pairText, rowText, rowsText, chartText};
 ghost use Rattle.report.specs.Promise.{ReportPromise};
@@ -69,9 +69,9 @@ fn put_pair(buffer: &mut [u8], at: usize, p: usize, q: usize, mark: usize) -> us
 // The lines of p with each state above it.
 fn put_row(buffer: &mut [u8], at: usize, matrix: &[u8], n: usize, p: usize) -> usize
     requires { ⌜ (n ≤ 64) × (p < n) × (n * n ≤ length (now matrix)) ⌝ }
-    requires { ⌜ at + length (rowText (markAt n (now matrix)) p (n - 1 - p)) ≤ length (now buffer) ⌝ }
-    ensures { λ r. ⌜ r ≡ at + length (rowText (markAt n (now (matrix .entry))) p (n - 1 - p)) ⌝ }
-    ensures { λ r. ⌜ now (buffer .exit) ≡ placed (now (buffer .entry)) at (rowText (markAt n (now (matrix .entry))) p (n - 1 - p)) ⌝ }
+    requires { ⌜ at + length (rowText (byteAt n (now matrix)) p (n - 1 - p)) ≤ length (now buffer) ⌝ }
+    ensures { λ r. ⌜ r ≡ at + length (rowText (byteAt n (now (matrix .entry))) p (n - 1 - p)) ⌝ }
+    ensures { λ r. ⌜ now (buffer .exit) ≡ placed (now (buffer .entry)) at (rowText (byteAt n (now (matrix .entry))) p (n - 1 - p)) ⌝ }
 {
     let row = p * n;
     let above = n - 1 - p;
@@ -88,9 +88,9 @@ fn put_row(buffer: &mut [u8], at: usize, matrix: &[u8], n: usize, p: usize) -> u
 // The lines of all pairs.
 fn put_rows(buffer: &mut [u8], at: usize, matrix: &[u8], n: usize) -> usize
     requires { ⌜ (n ≤ 64) × (n * n ≤ length (now matrix)) ⌝ }
-    requires { ⌜ at + length (rowsText (markAt n (now matrix)) n n) ≤ length (now buffer) ⌝ }
-    ensures { λ r. ⌜ r ≡ at + length (rowsText (markAt n (now (matrix .entry))) n n) ⌝ }
-    ensures { λ r. ⌜ now (buffer .exit) ≡ placed (now (buffer .entry)) at (rowsText (markAt n (now (matrix .entry))) n n) ⌝ }
+    requires { ⌜ at + length (rowsText (byteAt n (now matrix)) n n) ≤ length (now buffer) ⌝ }
+    ensures { λ r. ⌜ r ≡ at + length (rowsText (byteAt n (now (matrix .entry))) n n) ⌝ }
+    ensures { λ r. ⌜ now (buffer .exit) ≡ placed (now (buffer .entry)) at (rowsText (byteAt n (now (matrix .entry))) n n) ⌝ }
 {
     let mut end = at;
     let mut p: usize = 0;
@@ -103,9 +103,9 @@ fn put_rows(buffer: &mut [u8], at: usize, matrix: &[u8], n: usize) -> usize
 
 fn put_chart(buffer: &mut [u8], matrix: &[u8], n: usize, rounds: usize) -> usize
     requires { ⌜ (n ≤ 64) × (n * n ≤ length (now matrix)) ⌝ }
-    requires { ⌜ length (chartText n rounds (markAt n (now matrix))) ≤ length (now buffer) ⌝ }
-    ensures { λ r. ⌜ r ≡ 0 + length (chartText n rounds (markAt n (now (matrix .entry)))) ⌝ }
-    ensures { λ r. ⌜ now (buffer .exit) ≡ placed (now (buffer .entry)) 0 (chartText n rounds (markAt n (now (matrix .entry)))) ⌝ }
+    requires { ⌜ length (chartText n rounds (byteAt n (now matrix))) ≤ length (now buffer) ⌝ }
+    ensures { λ r. ⌜ r ≡ 0 + length (chartText n rounds (byteAt n (now (matrix .entry)))) ⌝ }
+    ensures { λ r. ⌜ now (buffer .exit) ≡ placed (now (buffer .entry)) 0 (chartText n rounds (byteAt n (now (matrix .entry)))) ⌝ }
 {
     let second = put_count(buffer, 0, b"states ", n);
     let third = put_count(buffer, second, b"rounds ", rounds);

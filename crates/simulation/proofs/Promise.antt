@@ -23,7 +23,8 @@ use Rattle.relation.specs.declared.MatrixAnswer.{MatrixAnswer}
 use Rattle.relation.specs.declared.MatrixAnswer.the-variants as Answer
 use Rattle.relation.proofs.Cells.{cell-in, cell-pair, cells-few}
 use Rattle.relation.proofs.Promise as Matrices
-use Rattle.simulation.specs.Promise.{byteAt, SimulationOf, SimulationPromise}
+use Rattle.relation.specs.Promise.{byteAt}
+use Rattle.simulation.specs.Promise.{SimulationOf, SimulationPromise}
 use Rattle.simulation.specs.Working.{Working}
 
 -- ---- what the worked out cells mean

@@ -1,21 +1,16 @@
 -- What simulation promises, for every chart and every lent buffer: the promise of a matrix (crate relation), which is the largest simulation.
-use Prim.Native.Nat.{ℕ, _+_, _-_, _*_, _≤_, _<_}
+use Prim.Native.Nat.{ℕ, _-_, _*_, _≤_, _<_}
 use mathlib.Core.Path.{_≡_}
 use mathlib.Core.List.{List}
 use mathlib.Core.Logic.{_↔_}
-use lib.ListN.{getD}
 use Rattle.settle.specs.Finite.{pairs}
 use Rattle.settle.specs.Chain.{Rounds}
 use Rattle.chart.specs.Chart.{Step}
 use Rattle.nearness.specs.Relation.{Simulating}
 use Rattle.nearness.specs.Bisimulation.{Simulates}
-use Rattle.relation.specs.Promise.{MatrixPromise}
+use Rattle.relation.specs.Promise.{byteAt, MatrixPromise}
 use Rattle.relation.specs.declared.Matrix.{Matrix}
 use Rattle.relation.specs.declared.MatrixAnswer.{MatrixAnswer}
-
--- the byte of the pair (p, q) in a matrix of n states
-abbrev pub byteAt : ℕ → List ℕ → ℕ → ℕ → ℕ
-byteAt n bytes p q = getD bytes (p * n + q) 0
 
 -- the largest simulation of a chart of n states with these steps
 pub record SimulationOf (n : ℕ) (steps : List Step) (bytes : List ℕ) (given : Matrix) : Type 0 where

@@ -3,7 +3,7 @@ use native.Mathlib.Omega.{arith}
 use Prim.Native.Nat.{_+_, _≤_}
 use mathlib.Core.List.{[], _∷_, _++_}
 use lib.ListN.{length, length-append}
-use Rattle.marks.specs.Promise.{markAt}
+use Rattle.relation.specs.Promise.{byteAt}
 use Rattle.text.specs.Text.{line}
 use Rattle.text.proofs.Laws.{put-then}
 use Rattle.report.specs.Text.{statesWord, roundsWord, rowsText, chartText}
@@ -17,7 +17,7 @@ slice-aggregate-put-count c = search needs
 put-count-requires : tie.Need-put-count-requires
 put-count-requires c κs =
     let s = c .before .before .before .before in
-    omega (arith, s .pre .1, chart-length (s .args .n) (s .args .rounds) (markAt (s .args .n) (s .args .matrix .now)))
+    omega (arith, s .pre .1, chart-length (s .args .n) (s .args .rounds) (byteAt (s .args .n) (s .args .matrix .now)))
 
 slice-aggregate-put-count-2 : tie.Need-slice-aggregate-put-count-2
 slice-aggregate-put-count-2 c = search needs
@@ -26,14 +26,14 @@ put-count-requires-2 : tie.Need-put-count-requires-2
 put-count-requires-2 c κs =
     let s = c .before .before .before .before .before .before .before .before .before in
     let one = c .before .before .before .before .put-count in
-    omega (arith, s .pre .1, one .ensures .0, one .kept .0, chart-length (s .args .n) (s .args .rounds) (markAt (s .args .n) (s .args .matrix .now)))
+    omega (arith, s .pre .1, one .ensures .0, one .kept .0, chart-length (s .args .n) (s .args .rounds) (byteAt (s .args .n) (s .args .matrix .now)))
 
 put-rows-requires : tie.Need-put-rows-requires
 put-rows-requires c κs =
     let s = c .before .before .before .before .before .before .before .before .before .before .before .before .before in
     let one = c .before .before .before .before .before .before .before .before .put-count in
     let two = c .before .before .before .put-count2 in
-    (s .pre .0, omega (arith, s .pre .1, one .ensures .0, one .kept .0, two .ensures .0, two .kept .0, chart-length (s .args .n) (s .args .rounds) (markAt (s .args .n) (s .args .matrix .now))))
+    (s .pre .0, omega (arith, s .pre .1, one .ensures .0, one .kept .0, two .ensures .0, two .kept .0, chart-length (s .args .n) (s .args .rounds) (byteAt (s .args .n) (s .args .matrix .now))))
 
 same-length : tie.Need-same-length
 same-length c = search needs
@@ -46,8 +46,8 @@ returns c =
     let old = a .buffer .now in
     let first = statesWord ++ line (a .n ∷ []) in
     let second = roundsWord ++ line (a .rounds ∷ []) in
-    let rows = rowsText (markAt (a .n) (a .matrix .now)) (a .n) (a .n) in
-    let room : 0 + length (first ++ second) ≤ length old = omega (arith, s .pre .1, chart-length (a .n) (a .rounds) (markAt (a .n) (a .matrix .now)), length-append first second) in
+    let rows = rowsText (byteAt (a .n) (a .matrix .now)) (a .n) (a .n) in
+    let room : 0 + length (first ++ second) ≤ length old = omega (arith, s .pre .1, chart-length (a .n) (a .rounds) (byteAt (a .n) (a .matrix .now)), length-append first second) in
     let two = put-then old 0 first second (omega (arith, length-append first second)) (c .before .before .before .before .before .before .before .before .before .before .before .put-count .ensures) (c .before .before .before .before .before .before .put-count2 .ensures) in
     put-then old 0 (first ++ second) rows room two (c .before .before .put-rows .ensures)
 

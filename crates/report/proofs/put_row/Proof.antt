@@ -4,7 +4,7 @@ use Prim.Native.Nat.{_+_, _-_, _*_, _≤_, _<_}
 use mathlib.Core.Path.{_≡_, refl, _∙_}
 use lib.ListN.{length}
 use Rattle.relation.proofs.Cells.{cell-in}
-use Rattle.marks.specs.Promise.{markAt}
+use Rattle.relation.specs.Promise.{byteAt}
 use Rattle.text.proofs.Laws.{Put, put-then, placed-none}
 use Rattle.report.specs.Text.{rowText, pairText}
 use Rattle.report.proofs.Laws.{row-none, row-step, row-longer, row-within}
@@ -13,7 +13,7 @@ use Rattle.report.proofs.put_row.Tie as tie
 
 abbrev Inv-loop : tie.InvT-loop
 Inv-loop buffer₀ at matrix n p row above end₀ k₀ buffer end k =
-    (k ≤ above) × Put buffer₀ at (rowText (markAt n matrix) p k) end buffer × (length buffer ≡ length buffer₀)
+    (k ≤ above) × Put buffer₀ at (rowText (byteAt n matrix) p k) end buffer × (length buffer ≡ length buffer₀)
 
 abbrev μ-loop : tie.MeasureT-loop
 μ-loop buffer₀ at matrix n p row above end₀ k₀ buffer end k = above - k
@@ -30,13 +30,13 @@ cell c =
 
 room : (c : tie.In-loop Inv-loop μ-loop) → c .before .loop .end
     + length (pairText (c .before .before .before .before .args .p) (c .before .before .before .before .args .p + 1 + c .before .loop .k)
-    (markAt (c .before .before .before .before .args .n) (c .before .before .before .before .args .matrix .now) (c .before .before .before .before .args .p) (c .before .before .before .before .args .p + 1 + c .before .loop .k)))
+    (byteAt (c .before .before .before .before .args .n) (c .before .before .before .before .args .matrix .now) (c .before .before .before .before .args .p) (c .before .before .before .before .args .p + 1 + c .before .loop .k)))
     ≤ length (c .before .loop .buffer)
 room c =
     let s = c .before .before .before .before in
     let a = s .args in
     let l = c .before .loop in
-    let mark = markAt (a .n) (a .matrix .now) in
+    let mark = byteAt (a .n) (a .matrix .now) in
     omega (arith, s .pre .1, l .inv .1 .0, l .inv .2, row-longer mark (a .p) (l .k), row-within mark (a .p) (l .k + 1) (a .n - 1 - a .p) (omega (arith, c .loop-test .taken)))
 
 mul-row : tie.Need-mul-row Inv-loop μ-loop
@@ -51,7 +51,7 @@ sub-above-2 c = omega arith
 loop-holds : tie.Need-loop-holds Inv-loop μ-loop
 loop-holds c =
     let a = c .before .before .args in
-    (omega arith, rw (row-none (markAt (a .n) (a .matrix .now)) (a .p)) (omega arith, placed-none (a .buffer .now) (a .at)), refl)
+    (omega arith, rw (row-none (byteAt (a .n) (a .matrix .now)) (a .p)) (omega arith, placed-none (a .buffer .now) (a .at)), refl)
 
 add-q : tie.Need-add-q Inv-loop μ-loop
 add-q c = omega arith
@@ -85,7 +85,7 @@ loop-again c =
     let a = s .args in
     let l = c .before .before .before .before .before .before .loop in
     let k = c .before .before .put-pair in
-    let mark = markAt (a .n) (a .matrix .now) in
+    let mark = byteAt (a .n) (a .matrix .now) in
     let fits : a .at + length (rowText mark (a .p) (l .k)) ≤ length (a .buffer .now) =
     omega (arith, s .pre .1, row-within mark (a .p) (l .k) (a .n - 1 - a .p) (l .inv .0)) in (
       omega (arith, c .before .before .before .before .before .loop-test .taken),
