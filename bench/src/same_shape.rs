@@ -111,31 +111,22 @@ fn diamond(triples: &[[u8; 3]], action: u8, f: u64) -> u64 {
     w
 }
 
-/// The word of the formula at a place, the place after it and the nodes still unread. It reads as the reader of a sheet does, node by
-/// node, and so does the archive's.
-fn evaluate(triples: &[[u8; 3]], m: usize, all: u64, sheet: &[u8], at: usize, left: usize, set: u64) -> Option<(u64, usize, usize)> {
-    if left == 0 {
-        return None;
-    }
-    match *sheet.get(at)? {
-        0 => Some((set, at + 1, left - 1)),
-        1 => Some((all, at + 1, left - 1)),
-        2 => Some((0, at + 1, left - 1)),
+/// The word of the formula at a place and the place after it. It was read there, so no byte is judged again.
+fn evaluate(triples: &[[u8; 3]], all: u64, sheet: &[u8], at: usize, set: u64) -> (u64, usize) {
+    match sheet[at] {
+        0 => (set, at + 1),
+        1 => (all, at + 1),
+        2 => (0, at + 1),
         node @ (3 | 4) => {
-            let (f, between, some) = evaluate(triples, m, all, sheet, at + 1, left - 1, set)?;
-            let (g, after, rest) = evaluate(triples, m, all, sheet, between, some, set)?;
-            Some((if node == 3 { f & g } else { f | g }, after, rest))
+            let (f, between) = evaluate(triples, all, sheet, at + 1, set);
+            let (g, after) = evaluate(triples, all, sheet, between, set);
+            (if node == 3 { f & g } else { f | g }, after)
         }
-        node @ (5 | 6) => {
-            let action = *sheet.get(at + 1)?;
-            if action as usize >= m && action != 255 {
-                return None;
-            }
-            let (f, after, rest) = evaluate(triples, m, all, sheet, at + 2, left - 1, set)?;
-            let word = if node == 5 { diamond(triples, action, f) } else { all & !diamond(triples, action, all & !f) };
-            Some((word, after, rest))
+        node => {
+            let action = sheet[at + 1];
+            let (f, after) = evaluate(triples, all, sheet, at + 2, set);
+            (if node == 5 { diamond(triples, action, f) } else { all & !diamond(triples, action, all & !f) }, after)
         }
-        _ => None,
     }
 }
 
@@ -148,7 +139,7 @@ pub fn property(chart: &[u8], sheet: &[u8]) -> Option<(u64, u64, u64)> {
     let mut set = read::first_set(kind, shape.n);
     let mut rounds = 0;
     loop {
-        let (next, _, _) = evaluate(triples, shape.m, read::all(shape.n), sheet, 3, sheet[2] as usize, set)?;
+        let (next, _) = evaluate(triples, read::all(shape.n), sheet, 3, set);
         if next == set {
             return Some((set, set.count_ones() as u64, rounds));
         }

@@ -4,9 +4,10 @@ use mathlib.Core.Path.{_≡_, refl, ap, sym, _∙_}
 use mathlib.Core.Bool.{Bool, true, false}
 use mathlib.Core.List.{List, [], _∷_, _++_, List·Memᴰ as Mem}
 use native.Mathlib.Omega.{arith}
-use lib.Bits.{bitOr, bitAnd, and-lt, or-lt}
+use lib.Bits.{bitOr, bitAnd}
 use lib.Pow.{pow-pos}
 use lib.Dec.{eqb}
+use lib.ListN.{length, getD}
 use Rattle.settle.specs.Test.{pick, both, either, neg, anyOf, some, each}
 use Rattle.settle.proofs.Test.{ext, neg-i, neg-e, some-i, some-e, each-i, each-e, stable, any-cong, all-cong}
 use Rattle.chart.specs.Chart.{Step}
@@ -21,12 +22,14 @@ use Rattle.sheet.specs.Reading.{nodeAt, leafOf, twoOf, labelOf, oneOf, Parsed, 
 use Rattle.sheet.specs.declared.Node.{Node}
 use Rattle.sheet.specs.declared.Node.the-variants.{Leaf, Two, One, Bad}
 use Rattle.sheet.proofs.Meaning.{some-every, every-every}
-use Rattle.sheet.proofs.Reading.{parse-step}
+use Rattle.sheet.proofs.Reading.{parse-none}
+use Rattle.sheet.proofs.Found.{NodeFound, node-found, formula-found, parse-node}
+use Rattle.sheet.proofs.Written.{leaf-at, two-at}
+use Rattle.sheet.proofs.Accepted.{nodes-positive}
 use Rattle.words.specs.Words.{wordOf, member}
 use Rattle.words.proofs.Words.{step-word, word-none, word-cong, word-ext, word-member, not-word, word-lt, all-word, and-word, or-word}
-use Rattle.evaluate.specs.Evaluating.{ReadAs, asksFor, reaches, keeps, leafWord, joinedWord, modalWord, valueOf}
+use Rattle.evaluate.specs.Evaluating.{ReadAs, asksFor, reaches, keeps, leafWord, joinedWord, modalWord, WasRead, valueOf}
 use Rattle.evaluate.specs.declared.formula.Valued.{Valued}
-use Rattle.evaluate.specs.declared.formula.Valued.the-variants.{Value, Wrong}
 
 -- ---- an accepted chart's steps
 
@@ -128,11 +131,67 @@ module _ (m : ℕ) (steps : List Step) (A : (u : Step) → Mem u steps → u .ac
       go true = every-every m steps F x A ∙ all-cong _ _ steps (λ u i. rw (both-true (eqb (u .source) x)))
       go false = refl
 
+-- ---- a node of a formula that was read
+
+-- where all operands were read, the first was
+first-was : (u : Parsed) (next : Formula → ℕ → ℕ → Parsed) → WasRead (onParsed u next) → WasRead u
+first-was (parsed f at left) next w = tt
+first-was (wrong r) next w = w
+
+module _ (b : List ℕ) (m at left : ℕ) (was : WasRead (parse left b m at left)) where
+  -- the formula at a place
+  abbrev formula : ℕ → ℕ → Parsed
+  formula at left = parse left b m at left
+
+  pub some-left : left ≡ 0 → ⊥
+  some-left none = rw (parse-none left b m at left none) at was
+
+  operands-were : WasRead (operands (nodeAt b m at) (left - 1) formula)
+  operands-were = rw (parse-node b m at left some-left) at was
+
+  pub node-inside : at < length b
+  unfolding NodeFound
+  node-inside = go (nodeAt b m at) (node-found b m at) operands-were
+    where
+      go : (u : Node) → NodeFound b m at u → WasRead (operands u (left - 1) formula) → at < length b
+      go (Bad r) found w = absurd w
+      go (Leaf node next) found w = found .here
+      go (Two node next) found w = found .here
+      go (One node byte next) found w = omega (arith, found .here)
+
+  is-leaf : getD b at 0 < 3 → nodeAt b m at ≡ Leaf (getD b at 0) (at + 1)
+  is-leaf known = leaf-at b m at _ node-inside refl known
+
+  is-two : 3 ≤ getD b at 0 → getD b at 0 < 5 → nodeAt b m at ≡ Two (getD b at 0) (at + 1)
+  is-two above known = two-at b m at _ node-inside refl above known
+
+  is-one : 5 ≤ getD b at 0 → (at + 1 < length b) × (nodeAt b m at ≡ One (getD b at 0) (getD b (at + 1) 0) (at + 2))
+  unfolding NodeFound
+  is-one above = go (nodeAt b m at) refl (node-found b m at) operands-were
+    where
+      go : (u : Node) → nodeAt b m at ≡ u → NodeFound b m at u → WasRead (operands u (left - 1) formula)
+          → (at + 1 < length b) × (nodeAt b m at ≡ One (getD b at 0) (getD b (at + 1) 0) (at + 2))
+      go (Bad r) e found w = absurd w
+      go (Leaf node next) e found w = absurd (omega (arith, found .node-is, found .known))
+      go (Two node next) e found w = absurd (omega (arith, found .node-is, found .known))
+      go (One node byte next) e found w = (found .here, rw (found .node-is, found .byte-is, ← found .next) e)
+
+  pub first-of-two : 3 ≤ getD b at 0 → getD b at 0 < 5 → WasRead (parse (left - 1) b m (at + 1) (left - 1))
+  first-of-two above known = first-was (formula (at + 1) (left - 1)) _ (rw (is-two above known) at operands-were)
+
+  pub action-inside : 5 ≤ getD b at 0 → at + 1 < length b
+  action-inside above = is-one above .0
+
+  pub operand-was : 5 ≤ getD b at 0 → WasRead (parse (left - 1) b m (at + 2) (left - 1))
+  operand-was above = first-was (formula (at + 2) (left - 1)) _ (rw (is-one above .1) at operands-were)
+
 -- ---- the evaluator, a node at a time
 
-abbrev pub onValued : Valued → (ℕ → ℕ → ℕ → Valued) → Valued
-onValued (Value w at left) next = next w at left
-onValued (Wrong r) next = Wrong r
+pub word-small : (n w : ℕ) (P : ℕ → Bool) → w ≡ wordOf n P → w < 2 ^ n
+word-small n w P e = rw e (word-lt n P)
+
+abbrev valued : ℕ → ℕ → ℕ → Valued
+valued w at left = record { word = w; after = at; rest = left }
 
 module _ (s : List ℕ) (sh : Shape) (e : ReadAs s sh) (set : ℕ) (small : set < 2 ^ sh .n) where
   abbrev n : ℕ
@@ -178,61 +237,72 @@ module _ (s : List ℕ) (sh : Shape) (e : ReadAs s sh) (set : ℕ) (small : set 
   abbrev val : Parsed → Valued
   val = valueOf s sh (member set)
 
-  abbrev pub operandsValued : Node → ℕ → (ℕ → ℕ → Valued) → Valued
-  operandsValued (Bad r) left read = Wrong r
-  operandsValued (Leaf node at) left read = Value (leafWord n node set) at left
-  operandsValued (One node a at) left read = onValued (read at left) (λ f after rest. Value (modalWord n steps node a f) after rest)
-  operandsValued (Two node at) left read =
-      onValued (read at left) (λ f between some. onValued (read between some) (λ g after rest. Value (joinedWord node f g) after rest))
+  pub value-small : (u : Parsed) → val u .word < 2 ^ sh .n
+  value-small (parsed f at left) = word-lt n _
+  value-small (wrong r) = pow-pos n
 
-  one-value : (u : Parsed) (node a : ℕ) → val (onParsed u (λ f after rest. parsed (oneOf node a f) after rest)) ≡ onValued (val u) (λ f after rest. Value (modalWord n steps node a f) after rest)
-  one-value (parsed f at left) node a = ap (λ (w : ℕ). Value w at left) (modal-word node a f)
-  one-value (wrong r) node a = refl
+  -- the second of two operands was read where both were
+  second-was : (u : Parsed) (read : ℕ → ℕ → Parsed) (next : Formula → Formula → ℕ → ℕ → Parsed)
+      → WasRead (onParsed u (λ f between some. onParsed (read between some) (next f))) → WasRead (read (val u .after) (val u .rest))
+  second-was (parsed f at left) read next w = first-was (read at left) (next f) w
+  second-was (wrong r) read next w = absurd w
 
-  last-value : (u : Parsed) (node : ℕ) (f : Formula) → val (onParsed u (λ g after rest. parsed (twoOf node f g) after rest)) ≡ onValued (val u) (λ g after rest. Value (joinedWord node (word f) g) after rest)
-  last-value (parsed g at left) node f = ap (λ (w : ℕ). Value w at left) (joined-word node f g)
-  last-value (wrong r) node f = refl
+  one-value : (u : Parsed) (node a : ℕ) → WasRead u
+      → val (onParsed u (λ f after rest. parsed (oneOf node a f) after rest)) ≡ valued (modalWord n steps node a (val u .word)) (val u .after) (val u .rest)
+  one-value (parsed f at left) node a w = ap (λ (x : ℕ). valued x at left) (modal-word node a f)
+  one-value (wrong r) node a w = absurd w
 
-  two-values : (u : Parsed) (read : ℕ → ℕ → Parsed) (node : ℕ)
+  last-value : (u : Parsed) (node : ℕ) (f : Formula) → WasRead u
+      → val (onParsed u (λ g after rest. parsed (twoOf node f g) after rest)) ≡ valued (joinedWord node (word f) (val u .word)) (val u .after) (val u .rest)
+  last-value (parsed g at left) node f w = ap (λ (x : ℕ). valued x at left) (joined-word node f g)
+  last-value (wrong r) node f w = absurd w
+
+  two-values : (u : Parsed) (read : ℕ → ℕ → Parsed) (node : ℕ) → WasRead u → WasRead (read (val u .after) (val u .rest))
       → val (onParsed u (λ f between some. onParsed (read between some) (λ g after rest. parsed (twoOf node f g) after rest)))
-      ≡ onValued (val u) (λ f between some. onValued (val (read between some)) (λ g after rest. Value (joinedWord node f g) after rest))
-  two-values (parsed f at left) read node = last-value (read at left) node f
-  two-values (wrong r) read node = refl
+      ≡ valued (joinedWord node (val u .word) (val (read (val u .after) (val u .rest)) .word)) (val (read (val u .after) (val u .rest)) .after) (val (read (val u .after) (val u .rest)) .rest)
+  two-values (parsed f at left) read node w v = last-value (read at left) node f v
+  two-values (wrong r) read node w v = absurd w
 
-  value-operands : (node : Node) (left : ℕ) (read : ℕ → ℕ → Parsed) → val (operands node left read) ≡ operandsValued node left (λ after rest. val (read after rest))
-  value-operands (Bad r) left read = refl
-  value-operands (Leaf node at) left read = ap (λ (w : ℕ). Value w at left) (leaf-word node)
-  value-operands (One node a at) left read = one-value (read at left) node a
-  value-operands (Two node at) left read = two-values (read at left) read node
+  module _ (b : List ℕ) (at left : ℕ) (was : WasRead (parse left b (sh .m) at left)) where
+    -- the value of the formula at a place
+    abbrev value : ℕ → ℕ → Valued
+    value at left = val (parse left b m at left)
 
-  pub value-step : (fuel : ℕ) (b : List ℕ) (at left : ℕ) → (left ≡ 0 → ⊥) → left ≤ fuel
-      → valueOf s sh (member set) (parse fuel b (sh .m) at left)
-      ≡ operandsValued (nodeAt b (sh .m) at) (left - 1) (λ after rest. valueOf s sh (member set) (parse (fuel - 1) b (sh .m) after rest))
-  value-step fuel b at left ne h = ap val (parse-step fuel b m at left ne h) ∙ value-operands (nodeAt b (sh .m) at) (left - 1) _
+    pub value-fewer : valueOf s sh (member set) (parse left b (sh .m) at left) .rest < left
+    value-fewer = go (parse left b m at left) refl was
+      where
+        go : (u : Parsed) → parse left b m at left ≡ u → WasRead u → val u .rest < left
+        go (parsed f after rest) e w = omega (arith, formula-found left b m at left f after rest e .counted, nodes-positive f)
+        go (wrong r) e w = absurd w
 
--- ---- no bit at n or above
+    abbrev node : ℕ
+    node = getD b at 0
 
-pub word-small : (n w : ℕ) (P : ℕ → Bool) → w ≡ wordOf n P → w < 2 ^ n
-word-small n w P e = rw e (word-lt n P)
+    here : value at left ≡ val (operands (nodeAt b m at) (left - 1) (formula b m at left was))
+    here = ap val (parse-node b m at left (some-left b m at left was))
 
-pub leaf-small : (n node set : ℕ) → set < 2 ^ n → leafWord n node set < 2 ^ n
-leaf-small n node set h = go (eqb node 0) (eqb node 1)
-  where
-    go : (x y : Bool) → pick x set (pick y (2 ^ n - 1) 0) < 2 ^ n
-    go true y = h
-    go false true = omega (arith, pow-pos n)
-    go false false = pow-pos n
+    -- 0 to 2
+    pub leaf-value : getD b at 0 < 3 → valueOf s sh (member set) (parse left b (sh .m) at left) ≡ valued (leafWord n node set) (at + 1) (left - 1)
+    leaf-value known = here ∙ rw (is-leaf b m at left was known) (ap (λ (x : ℕ). valued x (at + 1) (left - 1)) (leaf-word node))
 
-pub modal-small : (n : ℕ) (steps : List Step) (node a w : ℕ) → modalWord n steps node a w < 2 ^ n
-modal-small n steps node a w = go (eqb node 5)
-  where
-    go : (x : Bool) → pick x (wordOf n (reaches steps a (member w))) (wordOf n (keeps steps a (member w))) < 2 ^ n
-    go true = word-lt n _
-    go false = word-lt n _
+    -- 3 and 4
+    module _ (above : 3 ≤ getD b at 0) (known : getD b at 0 < 5) where
+      abbrev first : Valued
+      first = value (at + 1) (left - 1)
 
-pub joined-small : (n node v w : ℕ) → v < 2 ^ n → w < 2 ^ n → joinedWord node v w < 2 ^ n
-joined-small n node v w h l = go (eqb node 3)
-  where
-    go : (x : Bool) → pick x (bitAnd v w) (bitOr v w) < 2 ^ n
-    go true = and-lt n v w h l
-    go false = or-lt n v w h l
+      abbrev second : Valued
+      second = value (first .after) (first .rest)
+
+      pub second-of-two : WasRead (parse (first .rest) b (sh .m) (first .after) (first .rest))
+      second-of-two = second-was (parse (left - 1) b m (at + 1) (left - 1)) (formula b m at left was) (λ f g after rest. parsed (twoOf node f g) after rest) (rw (is-two b m at left was above known) at (operands-were b m at left was))
+
+      pub two-value : valueOf s sh (member set) (parse left b (sh .m) at left) ≡ valued (joinedWord node (first .word) (second .word)) (second .after) (second .rest)
+      two-value = here ∙ rw (is-two b m at left was above known) (two-values (parse (left - 1) b m (at + 1) (left - 1)) (formula b m at left was) node (first-of-two b m at left was above known) second-of-two)
+
+    -- 5 and 6
+    module _ (above : 5 ≤ getD b at 0) where
+      abbrev operand : Valued
+      operand = value (at + 2) (left - 1)
+
+      pub modal-value : valueOf s sh (member set) (parse left b (sh .m) at left) ≡ valued (modalWord n steps node (getD b (at + 1) 0) (operand .word)) (operand .after) (operand .rest)
+      modal-value = here ∙ rw (is-one b m at left was above .1) (one-value (parse (left - 1) b m (at + 2) (left - 1)) node (getD b (at + 1) 0) (operand-was b m at left was above))

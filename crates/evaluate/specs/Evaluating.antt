@@ -1,5 +1,5 @@
 -- What the parts of the evaluator say of themselves. The promise of the question cites none of it.
-use Prim.Native.Nat.{ℕ, _-_, _<_, _^_}
+use Prim.Native.Nat.{ℕ, _-_, _^_}
 use mathlib.Core.Path.{_≡_}
 use mathlib.Core.Bool.{Bool}
 use mathlib.Core.List.{List}
@@ -14,7 +14,6 @@ use Rattle.sheet.specs.Reading.{Parsed, parsed, wrong}
 use Rattle.sheet.specs.Meaning.{holds}
 use Rattle.words.specs.Words.{wordOf, member}
 use Rattle.evaluate.specs.declared.formula.Valued.{Valued}
-use Rattle.evaluate.specs.declared.formula.Valued.the-variants.{Value, Wrong}
 
 -- the bytes were read as a chart of these counts
 abbrev pub ReadAs : List ℕ → Shape → Type 0
@@ -41,12 +40,12 @@ joinedWord node v w = pick (eqb node 3) (bitAnd v w) (bitOr v w)
 abbrev pub modalWord : ℕ → List Step → ℕ → ℕ → ℕ → ℕ
 modalWord n steps node a w = pick (eqb node 5) (wordOf n (reaches steps a (member w))) (wordOf n (keeps steps a (member w)))
 
--- what the evaluator says of a formula that was read: the word of the states at which it holds
-abbrev pub valueOf : List ℕ → Shape → (ℕ → Bool) → Parsed → Valued
-valueOf chart shape T (parsed f at left) = Value (wordOf (shape .n) (holds (shape .m) (chartIn chart shape .steps) f T)) at left
-valueOf chart shape T (wrong r) = Wrong r
+-- a formula was read; one that stands in an accepted sheet is not judged again
+abbrev pub WasRead : Parsed → Type 0
+WasRead (parsed f at left) = Unit {0}
+WasRead (wrong r) = ⊥
 
--- a formula that was read has at least one node, and its word no bit at n or above
-abbrev pub FewerValued : ℕ → ℕ → Valued → Type 0
-FewerValued n left (Value w at rest) = (rest < left) × (w < 2 ^ n)
-FewerValued n left (Wrong r) = Unit {0}
+-- what the evaluator says of a formula that was read: the word of the states at which it holds, the place after it and the nodes still unread
+abbrev pub valueOf : List ℕ → Shape → (ℕ → Bool) → Parsed → Valued
+valueOf chart shape T (parsed f at left) = record { word = wordOf (shape .n) (holds (shape .m) (chartIn chart shape .steps) f T); after = at; rest = left }
+valueOf chart shape T (wrong r) = record { word = 0; after = 0; rest = 0 }

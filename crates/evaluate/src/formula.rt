@@ -1,21 +1,19 @@
 // The word of a formula: the states at which it holds, with a word for the variable.
 use chart::Shape;
-use refusal::Input;
-use refusal::Refusal;
-use sheet::Node;
 ghost use mathlib.Core.Path.{_≡_};
-ghost use Prim.Native.Nat.{ℕ, _-_, _≤_, _<_, _^_};
+ghost use Prim.Native.Nat.{_≤_, _<_, _^_};
 ghost use lib.Bits.{bitOr};
 ghost use Rattle.settle.specs.Test.{pick, both};
 ghost use Rattle.chart.specs.Reading.{chartIn};
 ghost use Rattle.sheet.specs.Reading.{parse};
 ghost use Rattle.words.specs.Words.{wordOf, member};
-ghost use Rattle.evaluate.specs.Evaluating.{ReadAs, asksFor, reaches, keeps, leafWord, joinedWord, modalWord, valueOf, FewerValued};
+ghost use Rattle.evaluate.specs.Evaluating.{ReadAs, asksFor, reaches, keeps, leafWord, joinedWord, modalWord, WasRead, valueOf};
 
 // A formula that was evaluated: its word, the place after it, and the nodes still unread.
-pub enum Valued {
-    Value(u64, usize, usize),
-    Wrong(Refusal),
+pub struct Valued {
+    pub word: u64,
+    pub after: usize,
+    pub rest: usize,
 }
 
 // Whether action byte a of a node asks for this action: 255 asks for every one.
@@ -107,7 +105,7 @@ fn joined_word(node: u8, v: u64, w: u64) -> u64
     words::union(v, w)
 }
 
-// The word of the formula at a place, of at most left nodes, with set for the variable. It reads as the reader of a sheet does.
+// The word of the formula at a place, of at most left nodes, with set for the variable: it was read there, so no byte is judged again.
 pub fn eval_formula(
     chart: &[u8],
     shape: Shape,
@@ -117,38 +115,31 @@ pub fn eval_formula(
     set: u64,
 ) -> Valued
     requires { ⌜ ReadAs (now chart) shape ⌝ }
+    requires { ⌜ WasRead (parse left (now sheet) (shape .m) at left) ⌝ }
     requires { ⌜ set < 2 ^ shape .n ⌝ }
-    ensures { λ r. ⌜ ((fuel : ℕ) → left ≤ fuel → r ≡ valueOf (now (chart .entry)) shape (member set) (parse fuel (now (sheet .entry)) (shape .m) at left)) ⌝ }
-    ensures { λ r. ⌜ FewerValued (shape .n) left r ⌝ }
+    ensures { λ r. ⌜ r ≡ valueOf (now (chart .entry)) shape (member set) (parse left (now (sheet .entry)) (shape .m) at left) ⌝ }
 {
-    if left == 0 {
-        return Valued::Wrong(Refusal {
-            input: Input::Sheet,
-            number: 13,
-            place: at,
-        });
+    let node = sheet[at];
+    if node < 3 {
+        return Valued {
+            word: leaf_word(shape.n, node, set),
+            after: at + 1,
+            rest: left - 1,
+        };
     }
-    match sheet::node_at(sheet, shape.m, at) {
-        Node::Bad(r) => Valued::Wrong(r),
-        Node::Leaf(node, next) => Valued::Value(leaf_word(shape.n, node, set), next, left - 1),
-        Node::One(node, a, next) => match eval_formula(chart, shape, sheet, next, left - 1, set) {
-            Valued::Wrong(r) => Valued::Wrong(r),
-            Valued::Value(f, after, rest) => Valued::Value(
-                modal_word(chart, shape, node, a, f),
-                after,
-                rest,
-            ),
-        },
-        Node::Two(node, next) => match eval_formula(chart, shape, sheet, next, left - 1, set) {
-            Valued::Wrong(r) => Valued::Wrong(r),
-            Valued::Value(f, mid, some) => match eval_formula(chart, shape, sheet, mid, some, set) {
-                Valued::Wrong(r) => Valued::Wrong(r),
-                Valued::Value(g, after, rest) => Valued::Value(
-                    joined_word(node, f, g),
-                    after,
-                    rest,
-                ),
-            },
-        },
+    if node < 5 {
+        let f = eval_formula(chart, shape, sheet, at + 1, left - 1, set);
+        let g = eval_formula(chart, shape, sheet, f.after, f.rest, set);
+        return Valued {
+            word: joined_word(node, f.word, g.word),
+            after: g.after,
+            rest: g.rest,
+        };
+    }
+    let f = eval_formula(chart, shape, sheet, at + 2, left - 1, set);
+    Valued {
+        word: modal_word(chart, shape, node, sheet[at + 1], f.word),
+        after: f.after,
+        rest: f.rest,
     }
 }

@@ -20,8 +20,6 @@ use Rattle.words.specs.Words.{wordOf, member}
 use Rattle.words.proofs.Words.{word-none, all-word, word-cong, word-member}
 use Rattle.evaluate.specs.Evaluating.{valueOf}
 use Rattle.property.specs.Solving.{formulaOf}
-use Rattle.evaluate.specs.declared.formula.Valued.{Valued}
-use Rattle.evaluate.specs.declared.formula.Valued.the-variants.{Value, Wrong}
 
 pub empty-word : (n : ℕ) → 0 ≡ wordOf n empty
 unfolding empty
@@ -31,15 +29,11 @@ pub full-word : (n : ℕ) → 2 ^ n - 1 ≡ wordOf n full
 unfolding full
 full-word n = sym (all-word n)
 
--- the word of a formula that was read; of none, 0
-abbrev pub wordIn : Valued → ℕ
-wordIn (Value w at left) = w
-wordIn (Wrong r) = 0
-
-pub round-word : (s : List ℕ) (sh : Shape) (T : ℕ → Bool) (u : Parsed) → wordOf (sh .n) (holds (sh .m) (chartIn s sh .steps) (formulaOf u) T) ≡ wordIn (valueOf s sh T u)
+-- what the evaluator says is the word of one application
+pub round-word : (s : List ℕ) (sh : Shape) (T : ℕ → Bool) (u : Parsed) → valueOf s sh T u .word ≡ wordOf (sh .n) (holds (sh .m) (chartIn s sh .steps) (formulaOf u) T)
 unfolding holds
 round-word s sh T (parsed f at left) = refl
-round-word s sh T (wrong r) = word-none (sh .n)
+round-word s sh T (wrong r) = sym (word-none (sh .n))
 
 -- the words of two tests are equal exactly where the tests are
 pub same-word : (n : ℕ) (P Q : ℕ → Bool) → wordOf n P ≡ wordOf n Q → Same (below n) P Q

@@ -18,17 +18,14 @@ use Rattle.property.specs.declared.Solved.{Solved}
 use Rattle.property.specs.declared.PropertyAnswer.{PropertyAnswer}
 use Rattle.property.specs.declared.PropertyAnswer.the-variants.{Satisfied, Refused}
 
--- the formula that was read; false where none was, whose word the evaluator's caller takes
+-- the formula that was read; false where none was
 abbrev pub formulaOf : Parsed → Formula
 formulaOf (parsed f at left) = f
 formulaOf (wrong r) = bottom
 
-abbrev pub counts : ℕ → ℕ → ℕ → Shape
-counts n m t = record { n = n; m = m; t = t }
-
 -- one application, for the bytes of a chart with these counts and of a sheet with so many nodes
-abbrev pub application : List ℕ → ℕ → ℕ → ℕ → List ℕ → ℕ → (ℕ → Bool) → ℕ → Bool
-application chart n m t sheet nodes = holds m (chartIn chart (counts n m t) .steps) (formulaOf (parse nodes sheet m 3 nodes))
+abbrev pub application : List ℕ → Shape → List ℕ → ℕ → (ℕ → Bool) → ℕ → Bool
+application chart shape sheet nodes = holds (shape .m) (chartIn chart shape .steps) (formulaOf (parse nodes sheet (shape .m) 3 nodes))
 
 abbrev pub firstSet : ℕ → ℕ → Bool
 firstSet kind = pick (asksLeast kind) empty full

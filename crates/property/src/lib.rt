@@ -1,15 +1,14 @@
 // Which states satisfy a property sheet: the word, how many they are, and the rounds.
 use chart::ChartRead;
 use chart::Shape;
-use evaluate::formula::Valued;
-use refusal::Input;
 use refusal::Refusal;
 use sheet::SheetRead;
 ghost use mathlib.Core.Path.{_≡_};
 ghost use Prim.Native.Nat.{_≤_, _<_, _^_};
+ghost use Rattle.sheet.specs.Reading.{parse};
 ghost use Rattle.words.specs.Words.{wordOf, member};
-ghost use Rattle.evaluate.specs.Evaluating.{ReadAs};
-ghost use Rattle.property.specs.Solving.{counts, application, firstSet, Solves};
+ghost use Rattle.evaluate.specs.Evaluating.{ReadAs, WasRead};
+ghost use Rattle.property.specs.Solving.{application, firstSet, Solves};
 ghost use Rattle.property.specs.Promise.{PropertyPromise};
 
 // Bit s of the word is set where state s satisfies; the number of such states; the rounds.
@@ -36,43 +35,31 @@ fn first_set(kind: u8, n: usize) -> u64
 }
 
 // One application: the states at which the sheet's formula holds, with set for the variable.
-fn round(chart: &[u8], n: usize, m: usize, t: usize, sheet: &[u8], nodes: usize, set: u64) -> u64
-    requires { ⌜ ReadAs (now chart) (counts n m t) ⌝ }
-    requires { ⌜ set < 2 ^ n ⌝ }
-    ensures { λ r. ⌜ r ≡ wordOf n (application (now (chart .entry)) n m t (now (sheet .entry)) nodes (member set)) ⌝ }
+fn round(chart: &[u8], shape: Shape, sheet: &[u8], nodes: usize, set: u64) -> u64
+    requires { ⌜ ReadAs (now chart) shape ⌝ }
+    requires { ⌜ WasRead (parse nodes (now sheet) (shape .m) 3 nodes) ⌝ }
+    requires { ⌜ set < 2 ^ shape .n ⌝ }
+    ensures { λ r. ⌜ r ≡ wordOf (shape .n) (application (now (chart .entry)) shape (now (sheet .entry)) nodes (member set)) ⌝ }
 {
-    match evaluate::formula::eval_formula(chart, Shape { n, m, t }, sheet, 3, nodes, set) {
-        Valued::Value(w, _, _) => w,
-        Valued::Wrong(_) => 0,
-    }
+    let value = evaluate::formula::eval_formula(chart, shape, sheet, 3, nodes, set);
+    value.word
 }
 
 // Applications until one changes nothing, at most 4,096 that do.
-fn solve(
-    chart: &[u8],
-    n: usize,
-    m: usize,
-    t: usize,
-    sheet: &[u8],
-    nodes: usize,
-    kind: u8,
-) -> PropertyAnswer
-    requires { ⌜ ReadAs (now chart) (counts n m t) ⌝ }
-    ensures { λ r. ⌜ Solves n (application (now (chart .entry)) n m t (now (sheet .entry)) nodes) (firstSet kind) r ⌝ }
+fn solve(chart: &[u8], shape: Shape, sheet: &[u8], nodes: usize, kind: u8) -> PropertyAnswer
+    requires { ⌜ ReadAs (now chart) shape ⌝ }
+    requires { ⌜ WasRead (parse nodes (now sheet) (shape .m) 3 nodes) ⌝ }
+    ensures { λ r. ⌜ Solves (shape .n) (application (now (chart .entry)) shape (now (sheet .entry)) nodes) (firstSet kind) r ⌝ }
 {
-    let mut set = first_set(kind, n);
-    let mut next = round(chart, n, m, t, sheet, nodes, set);
+    let mut set = first_set(kind, shape.n);
+    let mut next = round(chart, shape, sheet, nodes, set);
     let mut rounds: usize = 0;
     while next != set {
         if rounds == 4096 {
-            return PropertyAnswer::Refused(Refusal {
-                input: Input::BufferOrName,
-                number: 15,
-                place: 0,
-            });
+            return PropertyAnswer::Refused(refusal::of_lent(15));
         }
         set = next;
-        next = round(chart, n, m, t, sheet, nodes, set);
+        next = round(chart, shape, sheet, nodes, set);
         rounds = rounds + 1;
     }
     PropertyAnswer::Satisfied(Solved {
@@ -94,13 +81,5 @@ pub fn property(chart: &[u8], sheet: &[u8]) -> PropertyAnswer
         SheetRead::Refused(r) => return PropertyAnswer::Refused(r),
         SheetRead::Sheet(o) => o,
     };
-    solve(
-        chart,
-        shape.n,
-        shape.m,
-        shape.t,
-        sheet,
-        outline.nodes,
-        outline.kind,
-    )
+    solve(chart, shape, sheet, outline.nodes, outline.kind)
 }

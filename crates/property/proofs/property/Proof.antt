@@ -31,15 +31,20 @@ enum-known-o : tie.Need-enum-known-o
 enum-known-o c = search needs
 
 solve-requires : tie.Need-solve-requires
-solve-requires c κs = sym (c .before .before .before .before .before .before .before .read-chart .ensures) ∙ c .before .before .before .before .before .s .given .1
+solve-requires c κs =
+    let start = c .before .before .before .before .before .before .before .before .before .before in
+    let sh = c .before .before .before .before .before .s .given .0 .0 in
+    let F = formed (start .args .sheet .now) (sh .m) (c .before .o .given .0 .0) (sym (c .before .before .before .read-sheet .ensures) ∙ c .before .o .given .1) in
+    (sym (c .before .before .before .before .before .before .before .read-chart .ensures) ∙ c .before .before .before .before .before .s .given .1, rw (F .parsed-is) tt)
 
 returns-3 : tie.Need-returns-3
 returns-3 c =
+    let start = c .before .before .before .before .before .before .before .before .before .before .before in
     let sh = c .before .before .before .before .before .before .s .given .0 .0 in
-    let read : ReadAs (c .before .before .before .before .before .before .before .before .before .before .before .args .chart .now) sh = sym (c .before .before .before .before .before .before .before .before .read-chart .ensures) ∙ c .before .before .before .before .before .before .s .given .1 in
-    let F = formed (c .before .before .before .before .before .before .before .before .before .before .before .args .sheet .now) (sh .m) (c .before .before .o .given .0 .0) (sym (c .before .before .before .before .read-sheet .ensures) ∙ c .before .before .o .given .1) in
+    let read : ReadAs (start .args .chart .now) sh = sym (c .before .before .before .before .before .before .before .before .read-chart .ensures) ∙ c .before .before .before .before .before .before .s .given .1 in
+    let F = formed (start .args .sheet .now) (sh .m) (c .before .before .o .given .0 .0) (sym (c .before .before .before .before .read-sheet .ensures) ∙ c .before .before .o .given .1) in
     promise-accepted _ _ sh _ _ (F .formula) (c .solve .result) read (F .read-is)
-    (answers (c .before .before .before .before .before .before .before .before .before .before .before .args .chart .now) sh (c .before .before .o .given .0 .0 .kind) (F .formula) (c .solve .result) read (rw (F .parsed-is) at (c .solve .ensures)))
+    (answers (start .args .chart .now) sh (c .before .before .o .given .0 .0 .kind) (F .formula) (c .solve .result) read (rw (F .parsed-is) at (c .solve .ensures)))
 
 pub property-spec : {M : Type 1} → statement M
 property-spec =

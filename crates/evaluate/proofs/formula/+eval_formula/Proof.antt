@@ -1,15 +1,12 @@
-use Prim.Native.Nat.{ℕ, _-_, _<_}
+use Prim.Native.Nat.{ℕ, _+_, _-_, _<_}
+use mathlib.Core.Path.{sym}
 use native.Mathlib.Omega.{arith}
 use borrow.Author.Needs.{needs}
 use borrow.Fn.Kinds.{In}
 use borrow.Fn.PlainCycle.{Measures, is, falls, and}
-use Rattle.chart.specs.Reading.{chartIn}
 use Rattle.chart.proofs.Accepted.{accepted}
-use Rattle.sheet.proofs.Reading.{parse-none}
-use Rattle.sheet.proofs.node_at.Reads as node-at-reads
-use Rattle.evaluate.specs.Evaluating.{FewerValued}
-use Rattle.evaluate.specs.declared.formula.Valued.the-variants.{Value}
-use Rattle.evaluate.proofs.Evaluating.{value-step, leaf-small, modal-small, joined-small}
+use Rattle.sheet.specs.Reading.{parse}
+use Rattle.evaluate.proofs.Evaluating.{value-small, value-fewer, some-left, node-inside, leaf-value, first-of-two, second-of-two, two-value, action-inside, operand-was, modal-value}
 use Rattle.evaluate.proofs.formula.eval_formula.Reads as eval-formula
 use Rattle.evaluate.proofs.formula.eval_formula.Kinds as eval-formula-kinds
 use Rattle.evaluate.proofs.formula.+eval_formula.Lts-eval_formula as eval-formula-lts
@@ -37,139 +34,85 @@ eval-formula-below t =
 
 pub +eval-formula-spec : {M : Type 1} → statement M
 +eval-formula-spec = close μ-eval-formula λ t. eval-formula-lts.spec (
-  node-at-reads.Asked,
-  node-at-reads.Learnt,
   leaf-word-reads.Asked,
   leaf-word-reads.Learnt,
   eval-formula-below t,
   eval-formula.Post,
-  modal-word-reads.Asked,
-  modal-word-reads.Learnt,
   joined-word-reads.Asked,
   joined-word-reads.Learnt,
+  modal-word-reads.Asked,
+  modal-word-reads.Learnt,
 )
     (eval-formula-at t)
     eval-formula.Post
-    -- nodes used up
-    (λ c. (λ fuel h. rw (parse-none _ _ _ _ _ (c .if1 .taken)), tt))
-    (λ c κs. search needs)
-    (λ c. search needs)
-    (λ c. search needs)
+    (λ c.
+    let s = c .before .before .before in
+    let a = s .args in
+    node-inside (a .sheet .now) (a .shape .m) (a .at) (a .left) (s .pre .1 .1 .0))
     -- a leaf
-    (λ c κs. accepted _ _ (c .before .before .before .before .before .before .before .pre .1 .0) .states-few)
-    (λ c. search needs)
-    (λ c. search needs)
-    (λ c. search needs)
-    -- one operand
-    (λ c κs. (omega (arith, c .before .before .before .before .before .before .before .pre .0), c .before .before .before .before .before .before .before .pre .1))
-    (λ c. search needs)
-    (λ c. search needs)
-    (λ c κs.
-    let start = c .before .before .before .before .before .before .before .before .before .before .before in
-    let g : FewerValued (start .args .shape .n) (start .args .left - 1) (Value (c .before .f .given .0 .0) (c .before .f .given .0 .1 .0) (c .before .f .given .0 .1 .1 .0)) = rw (c .before .f .given .1) at (c .before .before .before .eval-formula .ensures .1) in
-    (start .pre .1 .0, g .1))
-    (λ c. search needs)
-    (λ c. search needs)
-    -- two operands
-    (λ c κs. (omega (arith, c .before .before .before .before .before .before .before .pre .0), c .before .before .before .before .before .before .before .pre .1))
-    (λ c. search needs)
-    (λ c. search needs)
-    -- the second of them
-    (λ c κs.
-    let start = c .before .before .before .before .before .before .before .before .before .before .before in
-    let g : FewerValued (start .args .shape .n) (start .args .left - 1) (Value (c .before .f2 .given .0 .0) (c .before .f2 .given .0 .1 .0) (c .before .f2 .given .0 .1 .1 .0)) = rw (c .before .f2 .given .1) at (c .before .before .before .eval-formula2 .ensures .1) in
-    (omega (arith, start .pre .0), start .pre .1))
-    (λ c. search needs)
-    (λ c. search needs)
-    (λ c κs. search needs)
-    -- what is answered: a fault at the node
+    (λ c κs. accepted _ _ (c .before .before .before .before .pre .1 .0) .states-few)
     (λ c.
-    let start = c .before .before .before .before .before .before .before in (
-      λ fuel h. rw (
-        value-step _ _ (start .pre .1 .0) _ (start .pre .1 .1) _ _ _ _ (c .before .before .before .before .if1 .left) h,
-        ← c .before .before .before .node-at .ensures,
-        c .before .r .given .1,
-      ),
-      tt,
-    ))
-    -- a leaf
+    let s = c .before .before .before .before .before in
+    let a = s .args in
+    omega (arith, node-inside (a .sheet .now) (a .shape .m) (a .at) (a .left) (s .pre .1 .1 .0)))
     (λ c.
-    let start = c .before .before .before .before .before .before .before .before in (
-      λ fuel h. rw (
-        value-step _ _ (start .pre .1 .0) _ (start .pre .1 .1) _ _ _ _ (c .before .before .before .before .before .if1 .left) h,
-        ← c .before .before .before .before .node-at .ensures,
-        c .before .before .node .given .1,
-        c .leaf-word .ensures,
-      ),
-      (omega arith, rw (c .leaf-word .ensures) (leaf-small (start .args .shape .n) (c .before .before .node .given .0 .0) (start .args .set) (start .pre .1 .1))),
-    ))
-    -- a fault in the operand
+    let s = c .before .before .before .before .before in
+    let a = s .args in
+    omega (arith, some-left (a .sheet .now) (a .shape .m) (a .at) (a .left) (s .pre .1 .1 .0)))
     (λ c.
-    let start = c .before .before .before .before .before .before .before .before .before .before .before in (
-      λ fuel h. rw (
-        value-step _ _ (start .pre .1 .0) _ (start .pre .1 .1) _ _ _ _ (c .before .before .before .before .before .before .before .before .if1 .left) h,
-        ← c .before .before .before .before .before .before .before .node-at .ensures,
-        c .before .before .before .before .before .node2 .given .1,
-        ← c .before .before .before .eval-formula .ensures .0 (fuel - 1) (omega arith),
-        c .before .r2 .given .1,
-      ),
-      tt,
-    ))
-    -- one operand
-    (λ c.
-    let start = c .before .before .before .before .before .before .before .before .before .before .before .before in
-    let g : FewerValued (start .args .shape .n) (start .args .left - 1) (Value (c .before .before .f .given .0 .0) (c .before .before .f .given .0 .1 .0) (c .before .before .f .given .0 .1 .1 .0)) = rw (c .before .before .f .given .1) at (c .before .before .before .before .eval-formula .ensures .1) in (
-      λ fuel h. rw (
-        value-step _ _ (start .pre .1 .0) _ (start .pre .1 .1) _ _ _ _ (c .before .before .before .before .before .before .before .before .before .if1 .left) h,
-        ← c .before .before .before .before .before .before .before .before .node-at .ensures,
-        c .before .before .before .before .before .before .node2 .given .1,
-        ← c .before .before .before .before .eval-formula .ensures .0 (fuel - 1) (omega arith),
-        c .before .before .f .given .1,
-        c .modal-word .ensures,
-      ),
-      (omega arith, rw (c .modal-word .ensures) (modal-small (start .args .shape .n) (chartIn (start .args .chart .now) (start .args .shape) .steps) (c .before .before .before .before .before .before .node2 .given .0 .0) (c .before .before .before .before .before .before .node2 .given .0 .1 .0) (c .before .before .f .given .0 .0))),
-    ))
-    -- a fault in the first operand
-    (λ c.
-    let start = c .before .before .before .before .before .before .before .before .before .before .before in (
-      λ fuel h. rw (
-        value-step _ _ (start .pre .1 .0) _ (start .pre .1 .1) _ _ _ _ (c .before .before .before .before .before .before .before .before .if1 .left) h,
-        ← c .before .before .before .before .before .before .before .node-at .ensures,
-        c .before .before .before .before .before .node3 .given .1,
-        ← c .before .before .before .eval-formula2 .ensures .0 (fuel - 1) (omega arith),
-        c .before .r3 .given .1,
-      ),
-      tt,
-    ))
-    -- a fault in the second
-    (λ c.
-    let start = c .before .before .before .before .before .before .before .before .before .before .before .before .before .before .before in
-    let g : FewerValued (start .args .shape .n) (start .args .left - 1) (Value (c .before .before .before .before .before .f2 .given .0 .0) (c .before .before .before .before .before .f2 .given .0 .1 .0) (c .before .before .before .before .before .f2 .given .0 .1 .1 .0)) = rw (c .before .before .before .before .before .f2 .given .1) at (c .before .before .before .before .before .before .before .eval-formula2 .ensures .1) in (
-      λ fuel h. rw (
-        value-step _ _ (start .pre .1 .0) _ (start .pre .1 .1) _ _ _ _ (c .before .before .before .before .before .before .before .before .before .before .before .before .if1 .left) h,
-        ← c .before .before .before .before .before .before .before .before .before .before .before .node-at .ensures,
-        c .before .before .before .before .before .before .before .before .before .node3 .given .1,
-        ← c .before .before .before .before .before .before .before .eval-formula2 .ensures .0 (fuel - 1) (omega arith),
-        c .before .before .before .before .before .f2 .given .1,
-        ← c .before .before .before .eval-formula3 .ensures .0 (fuel - 1) (omega arith),
-        c .before .r4 .given .1,
-      ),
-      tt,
-    ))
+    let s = c .before .before .before .before .before in
+    let a = s .args in
+    rw (c .leaf-word .ensures) (sym (leaf-value (a .chart .now) (a .shape) (s .pre .1 .0) (a .set) (s .pre .1 .1 .1) (a .sheet .now) (a .at) (a .left) (s .pre .1 .1 .0) (c .before .if1 .taken))))
     -- two operands
     (λ c.
-    let start = c .before .before .before .before .before .before .before .before .before .before .before .before .before .before .before .before in
-    let v : FewerValued (start .args .shape .n) (start .args .left - 1) (Value (c .before .before .before .before .before .before .f2 .given .0 .0) (c .before .before .before .before .before .before .f2 .given .0 .1 .0) (c .before .before .before .before .before .before .f2 .given .0 .1 .1 .0)) = rw (c .before .before .before .before .before .before .f2 .given .1) at (c .before .before .before .before .before .before .before .before .eval-formula2 .ensures .1) in
-    let w : FewerValued (start .args .shape .n) (c .before .before .before .before .before .before .f2 .given .0 .1 .1 .0) (Value (c .before .before .g .given .0 .0) (c .before .before .g .given .0 .1 .0) (c .before .before .g .given .0 .1 .1 .0)) = rw (c .before .before .g .given .1) at (c .before .before .before .before .eval-formula3 .ensures .1) in (
-      λ fuel h. rw (
-        value-step _ _ (start .pre .1 .0) _ (start .pre .1 .1) _ _ _ _ (c .before .before .before .before .before .before .before .before .before .before .before .before .before .if1 .left) h,
-        ← c .before .before .before .before .before .before .before .before .before .before .before .before .node-at .ensures,
-        c .before .before .before .before .before .before .before .before .before .before .node3 .given .1,
-        ← c .before .before .before .before .before .before .before .before .eval-formula2 .ensures .0 (fuel - 1) (omega arith),
-        c .before .before .before .before .before .before .f2 .given .1,
-        ← c .before .before .before .before .eval-formula3 .ensures .0 (fuel - 1) (omega arith),
-        c .before .before .g .given .1,
-        c .joined-word .ensures,
-      ),
-      (omega arith, rw (c .joined-word .ensures) (joined-small (start .args .shape .n) (c .before .before .before .before .before .before .before .before .before .before .node3 .given .0 .0) (c .before .before .before .before .before .before .f2 .given .0 .0) (c .before .before .g .given .0 .0) (v .1) (w .1))),
-    ))
+    let s = c .before .before .before .before .before in
+    let a = s .args in
+    omega (arith, node-inside (a .sheet .now) (a .shape .m) (a .at) (a .left) (s .pre .1 .1 .0)))
+    (λ c.
+    let s = c .before .before .before .before .before in
+    let a = s .args in
+    omega (arith, some-left (a .sheet .now) (a .shape .m) (a .at) (a .left) (s .pre .1 .1 .0)))
+    (λ c κs.
+    let s = c .before .before .before .before .before in
+    let a = s .args in
+    (omega (arith, some-left (a .sheet .now) (a .shape .m) (a .at) (a .left) (s .pre .1 .1 .0), s .pre .0), (s .pre .1 .0, (first-of-two (a .sheet .now) (a .shape .m) (a .at) (a .left) (s .pre .1 .1 .0) (c .before .if1 .left) (c .if2 .taken), s .pre .1 .1 .1))))
+    (λ c κs.
+    let s = c .before .before .before .before .before .before in
+    let a = s .args in
+    let was = first-of-two (a .sheet .now) (a .shape .m) (a .at) (a .left) (s .pre .1 .1 .0) (c .before .before .if1 .left) (c .before .if2 .taken) in
+    let fewer : c .eval-formula .result .rest < a .left - 1 = rw (c .eval-formula .ensures) (value-fewer (a .chart .now) (a .shape) (s .pre .1 .0) (a .set) (s .pre .1 .1 .1) (a .sheet .now) (a .at + 1) (a .left - 1) was) in
+    (omega (arith, s .pre .0), (s .pre .1 .0, (rw (c .eval-formula .ensures) (second-of-two (a .chart .now) (a .shape) (s .pre .1 .0) (a .set) (s .pre .1 .1 .1) (a .sheet .now) (a .at) (a .left) (s .pre .1 .1 .0) (c .before .before .if1 .left) (c .before .if2 .taken)), s .pre .1 .1 .1))))
+    (λ c κs. search needs)
+    (λ c.
+    let s = c .before .before .before .before .before .before .before .before in
+    let a = s .args in
+    rw (c .joined-word .ensures, c .before .eval-formula2 .ensures, c .before .before .eval-formula .ensures) (sym (two-value (a .chart .now) (a .shape) (s .pre .1 .0) (a .set) (s .pre .1 .1 .1) (a .sheet .now) (a .at) (a .left) (s .pre .1 .1 .0) (c .before .before .before .before .if1 .left) (c .before .before .before .if2 .taken))))
+    -- one operand
+    (λ c.
+    let s = c .before .before .before .before .before in
+    let a = s .args in
+    omega (arith, action-inside (a .sheet .now) (a .shape .m) (a .at) (a .left) (s .pre .1 .1 .0) (c .if2 .left)))
+    (λ c.
+    let s = c .before .before .before .before .before in
+    let a = s .args in
+    omega (arith, some-left (a .sheet .now) (a .shape .m) (a .at) (a .left) (s .pre .1 .1 .0)))
+    (λ c κs.
+    let s = c .before .before .before .before .before in
+    let a = s .args in
+    (omega (arith, some-left (a .sheet .now) (a .shape .m) (a .at) (a .left) (s .pre .1 .1 .0), s .pre .0), (s .pre .1 .0, (operand-was (a .sheet .now) (a .shape .m) (a .at) (a .left) (s .pre .1 .1 .0) (c .if2 .left), s .pre .1 .1 .1))))
+    (λ c.
+    let s = c .before .before .before .before .before .before in
+    let a = s .args in
+    omega (arith, node-inside (a .sheet .now) (a .shape .m) (a .at) (a .left) (s .pre .1 .1 .0)))
+    (λ c.
+    let s = c .before .before .before .before .before .before .before in
+    let a = s .args in
+    action-inside (a .sheet .now) (a .shape .m) (a .at) (a .left) (s .pre .1 .1 .0) (c .before .before .if2 .left))
+    (λ c κs.
+    let s = c .before .before .before .before .before .before .before in
+    let a = s .args in
+    (s .pre .1 .0, rw (c .before .eval-formula3 .ensures) (value-small (a .chart .now) (a .shape) (s .pre .1 .0) (a .set) (s .pre .1 .1 .1) (parse (a .left - 1) (a .sheet .now) (a .shape .m) (a .at + 2) (a .left - 1)))))
+    (λ c.
+    let s = c .before .before .before .before .before .before .before .before in
+    let a = s .args in
+    rw (c .modal-word .ensures, c .before .before .eval-formula3 .ensures) (sym (modal-value (a .chart .now) (a .shape) (s .pre .1 .0) (a .set) (s .pre .1 .1 .1) (a .sheet .now) (a .at) (a .left) (s .pre .1 .1 .0) (c .before .before .before .if2 .left))))
