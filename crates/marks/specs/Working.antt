@@ -8,7 +8,7 @@ use Rattle.relation.specs.Working as Relation
 use Rattle.relation.specs.declared.Matrix.{Matrix}
 use Rattle.relation.specs.declared.MatrixAnswer.{MatrixAnswer}
 
-abbrev pub Cell : List Step → ℕ → ℕ × ℕ → ℕ → Type 0
+abbrev pub Cell : List Step → Relation.Holding
 Cell steps k x = Mark steps (x .0) (x .1)
 
 abbrev pub Working : List Step → ℕ → List ℕ → List ℕ → Matrix → Type 0

@@ -1,8 +1,6 @@
 // The marks of all pairs of a chart's states (strong bisimulation): 0 where two states are equal, else the smallest depth of a formula that tells
 // them apart.
 use chart::ChartRead;
-use refusal::Input;
-use refusal::Refusal;
 use relation::Matrix;
 use relation::MatrixAnswer;
 ghost use Prim.Native.Nat.{_*_, _≤_, _<_};
@@ -32,11 +30,7 @@ fn work_out(chart: &[u8], at: usize, t: usize, n: usize, buffer: &mut [u8]) -> M
         k = k + 1;
     }
     // 4,096 rounds are done and a further one changed: it never comes to that (the law never-15), so the buffer needs no restoring.
-    MatrixAnswer::Refused(Refusal {
-        input: Input::BufferOrName,
-        number: 15,
-        place: 0,
-    })
+    MatrixAnswer::Refused(refusal::of_lent(15))
 }
 
 // The byte at p * n + q of the buffer becomes the mark of (p, q).
@@ -49,11 +43,7 @@ pub fn marks(chart: &[u8], buffer: &mut [u8]) -> MatrixAnswer
     };
     let n = shape.n;
     if buffer.len() < n * n {
-        return MatrixAnswer::Refused(Refusal {
-            input: Input::BufferOrName,
-            number: 14,
-            place: 0,
-        });
+        return MatrixAnswer::Refused(refusal::of_lent(14));
     }
     work_out(chart, 4 + n + shape.m, shape.t, n, buffer)
 }

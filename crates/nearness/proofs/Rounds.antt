@@ -106,7 +106,7 @@ module _ (n : ℕ) (steps : List Step) (targets : TargetsBelow n steps) where
       near-stays e l = stays (pairs n) (bisimulationRound steps) (bisimulation-monotone n steps targets) full k h e l (p, q) (pairs-i n p q p-in q-in)
 
       -- no pair is dropped after
-      pub near-all : So (Near steps k (p, q)) → (e : ℕ) → So (Near steps e (p, q))
+      near-all : So (Near steps k (p, q)) → (e : ℕ) → So (Near steps e (p, q))
       near-all t e = elim (decLe k e) [ yes l ↦ sym (near-stays e l) ∙ t | no f ↦ near-down steps e k _ _ (omega arith) t ]
 
       pub mark-le : (d : ℕ) → Mark steps p q d → d ≤ k

@@ -3,4 +3,5 @@ pub mod Ranges
 pub mod Matching
 pub mod Striking
 pub mod Chained
+pub mod Rounding
 pub mod Promise

@@ -42,3 +42,18 @@ pub record MatrixPromise (Says : Saying) (R : Relations) (chart old new : List �
   pub refusal-leaves-all : (r : Refusal) → answer ≡ Answer.Refused r → new ≡ old
   pub later-bytes-stay : (sh : Shape) → readChart chart ≡ Read.Chart sh → (y : ℕ) → sh .n * sh .n ≤ y → getD new y 0 ≡ getD old y 0
   pub length-stays : length new ≡ length old
+
+-- ---- what follows of it
+
+-- a chart that is accepted is not refused where the buffer has room
+abbrev pub AlwaysAnswered : Saying → Relations → Type 0
+AlwaysAnswered Says R = (chart : List ℕ) (sh : Shape) → readChart chart ≡ Read.Chart sh → (old new : List ℕ) (answer : MatrixAnswer) → sh .n * sh .n ≤ length old
+    → MatrixPromise Says R chart old new answer → (r : Refusal) → answer ≡ Answer.Refused r → ⊥
+
+-- 15 never comes
+abbrev pub Never15 : Saying → Relations → Type 0
+Never15 Says R = (chart old new : List ℕ) (answer : MatrixAnswer) → MatrixPromise Says R chart old new answer → (r : Refusal) → answer ≡ Answer.Refused r → r .number ≡ 15 → ⊥
+
+-- any two answers, and any two buffers, that it allows for the same input are equal
+abbrev pub Determined : Saying → Relations → Type 0
+Determined Says R = (chart old a b : List ℕ) (s t : MatrixAnswer) → MatrixPromise Says R chart old a s → MatrixPromise Says R chart old b t → (s ≡ t) × (a ≡ b)

@@ -1,30 +1,22 @@
 -- What the worked out cells mean, and what follows of their promise: no refusal but of the chart or the buffer, and no choice. Assumes nothing.
-use Prim.Native.Nat.{ℕ, _+_, _*_, _≤_, _<_}
+use Prim.Native.Nat.{ℕ, _<_}
 use mathlib.Core.Path.{_≡_, refl, sym, ap, _∙_}
 use mathlib.Core.Bool.{Bool, true, false, So}
 use mathlib.Core.List.{List}
 use native.Mathlib.Omega.{arith}
 use native.Mathlib.Decide.{ℕ-discrete}
-use lib.ListN.{length}
-use Rattle.settle.specs.Finite.{pairs}
-use Rattle.settle.specs.Chain.{Settled}
 use Rattle.settle.specs.Test.{pick}
-use Rattle.refusal.specs.declared.Refusal.{Refusal}
 use Rattle.chart.specs.Chart.{Step}
-use Rattle.chart.specs.Reading.{readChart}
-use Rattle.chart.specs.declared.Shape.{Shape}
-use Rattle.chart.specs.declared.ChartRead.the-variants as Read
 use Rattle.sheet.proofs.Meaning.{TargetsBelow}
 use Rattle.nearness.specs.Relation.{Simulating}
 use Rattle.nearness.proofs.Bisimulation.{simulates-iff}
 use Rattle.nearness.proofs.Rounds.{simulation-rounds, simulation-rounds-le}
+use Rattle.relation.specs.Promise.{byteAt, AlwaysAnswered, Never15, Determined}
 use Rattle.relation.specs.declared.Matrix.{Matrix}
-use Rattle.relation.specs.declared.MatrixAnswer.{MatrixAnswer}
-use Rattle.relation.specs.declared.MatrixAnswer.the-variants as Answer
-use Rattle.relation.proofs.Cells.{cell-in, cell-pair, cells-few}
+use Rattle.relation.proofs.Cells.{cells-few}
+use Rattle.relation.proofs.Rounding.{working-rounds, working-cell}
 use Rattle.relation.proofs.Promise as Matrices
-use Rattle.relation.specs.Promise.{byteAt}
-use Rattle.simulation.specs.Promise.{SimulationOf, SimulationPromise}
+use Rattle.simulation.specs.Promise.{SimulationOf}
 use Rattle.simulation.specs.Working.{Working}
 
 -- ---- what the worked out cells mean
@@ -34,7 +26,7 @@ module _ (n : ℕ) (steps : List Step) (targets : TargetsBelow n steps) {old new
   last p q = Simulating steps (given .rounds) (p, q)
 
   cell-of : (p q : ℕ) → p < n → q < n → byteAt n new p q ≡ pick (last p q) 1 0
-  cell-of p q h k = w .cells (p * n + q) (cell-in n p q h k) ∙ ap (λ (x : ℕ × ℕ). pick (Simulating steps (given .rounds) x) 1 0) (cell-pair n p q k)
+  cell-of = working-cell w
 
   module _ (b : Bool) (x : ℕ) (e : x ≡ pick b 1 0) where
     one-so : x ≡ 1 → So b
@@ -59,29 +51,26 @@ module _ (n : ℕ) (steps : List Step) (targets : TargetsBelow n steps) {old new
       record {
         states-said = w .states-said;
         one-exactly-if-simulates = λ p q h k. (
-          λ f. simulates-iff n steps targets p q h k (given .rounds) (w .rounds .0) .0 (one-so (last p q) _ (cell-of p q h k) f),
-          λ f. so-one (last p q) _ (cell-of p q h k) (simulates-iff n steps targets p q h k (given .rounds) (w .rounds .0) .1 f),
+          λ f. simulates-iff n steps targets p q h k (given .rounds) (w .settled) .0 (one-so (last p q) _ (cell-of p q h k) f),
+          λ f. so-one (last p q) _ (cell-of p q h k) (simulates-iff n steps targets p q h k (given .rounds) (w .settled) .1 f),
         );
         else-zero = λ p q h k f. not-one (last p q) _ (cell-of p q h k) f;
-        rounds-are = w .rounds;
-        rounds-few = simulation-rounds-le n steps targets (given .rounds) (w .rounds);
+        rounds-are = working-rounds w;
+        rounds-few = simulation-rounds-le n steps targets (given .rounds) (working-rounds w);
       }
 
--- ---- the rounds settle, so there is no refusal of an accepted chart where the buffer has room, and 15 never comes
+-- ---- the rounds settle, so 15 never comes, and the promise leaves no choice
 
-settles : (n : ℕ) (steps : List Step) → 0 < n → n ≤ 64 → TargetsBelow n steps → (k : ℕ) × (k ≤ 4096) × Settled (pairs n) (Simulating steps) k
+settles : Matrices.Settles Simulating
 settles n steps some few targets = let k = simulation-rounds n steps targets in (k .0, omega (arith, cells-few n few), k .2 .0)
 
-pub always-answered : (chart : List ℕ) (sh : Shape) → readChart chart ≡ Read.Chart sh → (old new : List ℕ) (answer : MatrixAnswer) → sh .n * sh .n ≤ length old
-    → SimulationPromise chart old new answer → (r : Refusal) → answer ≡ Answer.Refused r → ⊥
+pub always-answered : AlwaysAnswered (λ n m. SimulationOf n) Simulating
 always-answered = Matrices.always-answered settles
 
-pub never-15 : (chart old new : List ℕ) (answer : MatrixAnswer) → SimulationPromise chart old new answer → (r : Refusal) → answer ≡ Answer.Refused r → r .number ≡ 15 → ⊥
+pub never-15 : Never15 (λ n m. SimulationOf n) Simulating
 never-15 = Matrices.never-15 settles
 
--- ---- any two answers, and any two buffers, that the promise allows for the same input are equal
-
-alike : (n m : ℕ) (steps : List Step) (a b : List ℕ) (g h : Matrix) → SimulationOf n steps a g → SimulationOf n steps b h → (g ≡ h) × ((p q : ℕ) → p < n → q < n → byteAt n a p q ≡ byteAt n b p q)
+alike : Matrices.Alike (λ n m. SimulationOf n)
 alike n m steps a b g h s u = (
   Matrices.same-matrix n (Simulating steps) g h (s .states-said) (u .states-said) (s .rounds-are) (u .rounds-are),
   λ p q i j.
@@ -90,5 +79,5 @@ alike n m steps a b g h s u = (
       elim (ℕ-discrete (byteAt n a p q) 1) [ yes e ↦ e ∙ sym (too .1 (one .0 e)) | no f ↦ s .else-zero p q i j f ∙ sym (u .else-zero p q i j (λ e. f (one .1 (too .0 e)))) ],
 )
 
-pub simulation-determined : (chart old a b : List ℕ) (s t : MatrixAnswer) → SimulationPromise chart old a s → SimulationPromise chart old b t → (s ≡ t) × (a ≡ b)
+pub simulation-determined : Determined (λ n m. SimulationOf n) Simulating
 simulation-determined = Matrices.matrix-determined settles alike

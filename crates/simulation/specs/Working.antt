@@ -17,12 +17,13 @@ pub record Rewritten (cells held struck : ℕ) (old new : List ℕ) : Type 0 whe
   pub cells-are : (y : ℕ) → y < cells → getD new y 0 ≡ pick (eqb (getD old y 0) 0) held struck
   pub after : (y : ℕ) → cells ≤ y → getD new y 0 ≡ getD old y 0
 
--- 1 where the pair is in the relation of the last round, else 0
-abbrev pub Cell : List Step → ℕ → ℕ × ℕ → ℕ → Type 0
-Cell steps k x byte = byte ≡ pick (Simulating steps k x) 1 0
+-- `held` where the pair is in the relation of that round, else `struck`
+abbrev pub Cell : ℕ → ℕ → List Step → Relation.Holding
+Cell held struck steps k x byte = byte ≡ pick (Simulating steps k x) held struck
 
+-- 1 where it is in that of the last round, else 0
 abbrev pub Working : List Step → ℕ → List ℕ → List ℕ → Matrix → Type 0
-Working steps = Relation.Working (Cell steps) (Simulating steps)
+Working steps = Relation.Working (Cell 1 0 steps) (Simulating steps)
 
 abbrev pub Worked : List Step → ℕ → List ℕ → List ℕ → MatrixAnswer → Type 0
-Worked steps = Relation.Worked (Cell steps) (Simulating steps)
+Worked steps = Relation.Worked (Cell 1 0 steps) (Simulating steps)

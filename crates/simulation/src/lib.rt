@@ -1,7 +1,5 @@
 // The largest simulation of a chart's states: 1 at (p, q) where q simulates p, else 0.
 use chart::ChartRead;
-use refusal::Input;
-use refusal::Refusal;
 use relation::Matrix;
 use relation::MatrixAnswer;
 ghost use mathlib.Core.Path.{_≡_};
@@ -59,11 +57,7 @@ fn work_out(chart: &[u8], at: usize, t: usize, n: usize, buffer: &mut [u8]) -> M
         k = k + 1;
     }
     // 4,096 rounds are done and a further one changed: it never comes to that (the law never-15), so the buffer needs no restoring.
-    MatrixAnswer::Refused(Refusal {
-        input: Input::BufferOrName,
-        number: 15,
-        place: 0,
-    })
+    MatrixAnswer::Refused(refusal::of_lent(15))
 }
 
 // The byte at p * n + q of the buffer becomes 1 where q simulates p, and else 0.
@@ -76,11 +70,7 @@ pub fn simulation(chart: &[u8], buffer: &mut [u8]) -> MatrixAnswer
     };
     let n = shape.n;
     if buffer.len() < n * n {
-        return MatrixAnswer::Refused(Refusal {
-            input: Input::BufferOrName,
-            number: 14,
-            place: 0,
-        });
+        return MatrixAnswer::Refused(refusal::of_lent(14));
     }
     work_out(chart, 4 + n + shape.m, shape.t, n, buffer)
 }
