@@ -1,7 +1,6 @@
 // Document 01's boards and edges on the questions, and worked examples of the source documents: what is printed is held to the file stdout.
 use libc::STDOUT_FILENO;
 use property::PropertyAnswer;
-use refusal::Input;
 use refusal::Refusal;
 use relation::MatrixAnswer;
 use short_form::ShortFormAnswer;
@@ -15,18 +14,10 @@ fn number(x: u64) {
     io::print_decimal(STDOUT_FILENO, x);
 }
 
-fn input_number(input: Input) -> u64 {
-    match input {
-        Input::Chart => 0,
-        Input::Sheet => 1,
-        Input::BufferOrName => 2,
-    }
-}
-
 fn refused(r: Refusal) {
     let input = r.input;
     say(b"refused");
-    number(input_number(input));
+    number(refusal::input_number(input) as u64);
     number(r.number as u64);
     number(r.place as u64);
     say(b"\n");

@@ -165,10 +165,10 @@ made chart old text r p =
 -- ---- in the lent buffer
 
 module _ (chart : List ℕ) {size : ℕ} {page : List ℕ} (m : Made chart size page) (old : List ℕ) where
-  pub promise-short : length old < size → ReportPromise chart old old (Refused (lentRefusal 14))
-  promise-short h =
+  pub promise-short : {said : Refusal} → length old < size → said ≡ lentRefusal 14 → ReportPromise chart old old (Refused said)
+  promise-short h e =
       let s : length old < length (m .text) = omega (arith, m .size-is) in
-      record { text = m .text; is-report = m .is-report; answered = rw (lt-ltb _ _ s); bytes = rw (lt-ltb _ _ s) }
+      record { text = m .text; is-report = m .is-report; answered = rw (lt-ltb _ _ s, e); bytes = rw (lt-ltb _ _ s) }
 
   pub promise-written : {r : ℕ} {new : List ℕ} → size ≤ length old → Put old 0 (take size page) r new → ReportPromise chart old new (Written size)
   unfolding placed

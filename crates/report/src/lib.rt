@@ -1,12 +1,10 @@
 // The text that the program prints for a chart's bytes.
-use refusal::Input;
 use refusal::Refusal;
 use relation::MatrixAnswer;
 ghost use mathlib.Core.Path.{_≡_};
 ghost use mathlib.Core.List.{[], _∷_, _++_};
 ghost use Prim.Native.Nat.{_+_, _-_, _*_, _≤_, _<_};
 ghost use lib.ListN.{length};
-ghost use Rattle.refusal.specs.Refusal.{inputNumber};
 ghost use Rattle.relation.specs.Promise.{byteAt};
 ghost use Rattle.text.specs.Text.{line, placed};
 ghost use Rattle.report.specs.Text.{refusedText, pairText, rowText, rowsText, chartText};
@@ -31,16 +29,6 @@ fn page_room() -> [u8; 20480]
     ensures { λ r. ⌜ 20480 ≡ length r ⌝ }
 {
     [0; 20480]
-}
-
-fn input_number(input: Input) -> usize
-    ensures { λ r. ⌜ r ≡ inputNumber input ⌝ }
-{
-    match input {
-        Input::Chart => 0,
-        Input::Sheet => 1,
-        Input::BufferOrName => 2,
-    }
 }
 
 // A word, a number and a line feed.
@@ -119,7 +107,13 @@ fn put_refusal(buffer: &mut [u8], r: Refusal) -> usize
 {
     let input = r.input;
     let at = text::put_bytes(buffer, 0, b"refused ");
-    text::put_line(buffer, at, input_number(input), r.number as usize, r.place)
+    text::put_line(
+        buffer,
+        at,
+        refusal::input_number(input) as usize,
+        r.number as usize,
+        r.place,
+    )
 }
 
 // The text, in a page that has room for the longest, and its length.
@@ -141,11 +135,7 @@ pub fn report(chart: &[u8], buffer: &mut [u8]) -> ReportAnswer
     let mut page = page_room();
     let size = make(chart, &mut page);
     if buffer.len() < size {
-        return ReportAnswer::Refused(Refusal {
-            input: Input::BufferOrName,
-            number: 14,
-            place: 0,
-        });
+        return ReportAnswer::Refused(refusal::of_lent(14));
     }
     text::put_bytes(buffer, 0, &page[..size]);
     ReportAnswer::Written(size)

@@ -38,12 +38,12 @@ module _ (name : ℕ) (f : Formula) where
 
 -- ---- what is owed in each case
 
-pub promise-wrong : {w : Form} {r : Refusal} {answer : ShortFormAnswer} (old : List ℕ) → w ≡ wrong r → answer ≡ Refused r → FormPromise w old old answer
-promise-wrong old e a = record { answered = rw e a; bytes = rw e }
+pub promise-wrong : {w : Form} {r said : Refusal} (old : List ℕ) → w ≡ wrong r → said ≡ r → FormPromise w old old (Refused said)
+promise-wrong old e a = record { answered = rw (e, a); bytes = rw e }
 
-pub promise-short : {w : Form} {kind : ℕ} {f : Formula} {answer : ShortFormAnswer} (old : List ℕ) → w ≡ form kind f → length old < length (encode kind f)
-    → answer ≡ Refused (lentRefusal 14) → FormPromise w old old answer
-promise-short old e h a = record { answered = rw (e, lt-ltb _ _ h) a; bytes = rw (e, lt-ltb _ _ h) }
+pub promise-short : {w : Form} {kind : ℕ} {f : Formula} {said : Refusal} (old : List ℕ) → w ≡ form kind f → length old < length (encode kind f)
+    → said ≡ lentRefusal 14 → FormPromise w old old (Refused said)
+promise-short old e h a = record { answered = rw (e, lt-ltb _ _ h, a); bytes = rw (e, lt-ltb _ _ h) }
 
 pub promise-written : {w : Form} {kind : ℕ} {f : Formula} {size : ℕ} (old : List ℕ) {new : List ℕ} → w ≡ form kind f → length (encode kind f) ≤ length old
     → size ≡ length (encode kind f) → new ≡ placed old 0 (encode kind f) → FormPromise w old new (Written size)

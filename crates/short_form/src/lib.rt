@@ -1,16 +1,14 @@
 // The sheet of a short form: document 01's table of four, for F without variable and a name.
 use chart::ChartRead;
-use refusal::Input;
 use refusal::Refusal;
 use sheet::SheetRead;
 ghost use mathlib.Core.Path.{_≡_};
 ghost use mathlib.Core.Bool.{false};
-ghost use mathlib.Core.List.{List, _∷_, _++_};
+ghost use mathlib.Core.List.{_∷_, _++_};
 ghost use Prim.Native.Nat.{ℕ, _+_, _≤_};
 ghost use lib.ListN.{length, drop};
 ghost use lib.Dec.{eqb, ltb};
 ghost use Rattle.settle.specs.Test.{pick};
-ghost use Rattle.refusal.specs.Refusal.{sheetRefusal, lentRefusal};
 ghost use Rattle.sheet.specs.Formula.{Formula, nodes};
 ghost use Rattle.sheet.specs.Layout.{encode};
 ghost use Rattle.sheet.specs.Reading.{readSheet};
@@ -137,26 +135,6 @@ fn put_form(buffer: &mut [u8], sheet: &[u8], name: u64, total: u8)
     put_operand(buffer, third, name);
 }
 
-fn refuse_sheet(number: u8, place: usize) -> ShortFormAnswer
-    ensures { λ r. ⌜ r ≡ ShortFormAnswer.Refused (sheetRefusal number place) ⌝ }
-{
-    ShortFormAnswer::Refused(Refusal {
-        input: Input::Sheet,
-        number,
-        place,
-    })
-}
-
-fn refuse_lent(number: u8) -> ShortFormAnswer
-    ensures { λ r. ⌜ r ≡ ShortFormAnswer.Refused (lentRefusal number) ⌝ }
-{
-    ShortFormAnswer::Refused(Refusal {
-        input: Input::BufferOrName,
-        number,
-        place: 0,
-    })
-}
-
 // The form of an accepted sheet of so many nodes.
 fn of_formula(sheet: &[u8], count: usize, name: u64, buffer: &mut [u8]) -> ShortFormAnswer
     requires { ⌜ count ≤ 200 ⌝ }
@@ -165,18 +143,18 @@ fn of_formula(sheet: &[u8], count: usize, name: u64, buffer: &mut [u8]) -> Short
 {
     let variable = first_variable(sheet);
     if variable < sheet.len() {
-        return refuse_sheet(16, variable);
+        return ShortFormAnswer::Refused(refusal::of_sheet(16, variable));
     }
     if 3 < name {
-        return refuse_lent(17);
+        return ShortFormAnswer::Refused(refusal::of_lent(17));
     }
     let total = count + more_nodes(name);
     if 200 < total {
-        return refuse_sheet(10, 2);
+        return ShortFormAnswer::Refused(refusal::of_sheet(10, 2));
     }
     let size = sheet.len() + 1 + operand_size(name);
     if buffer.len() < size {
-        return refuse_lent(14);
+        return ShortFormAnswer::Refused(refusal::of_lent(14));
     }
     put_form(buffer, sheet, name, total as u8);
     ShortFormAnswer::Written(size)

@@ -8,7 +8,7 @@ use Rattle.refusal.specs.declared.Input.the-variants as Input
 use Rattle.refusal.specs.declared.Refusal.{Refusal}
 use Rattle.viewer.specs.Packing.{packed}
 
-pub input-few : (i : Input) → inputNumber i ≤ 2
+input-few : (i : Input) → inputNumber i ≤ 2
 input-few Input.Chart = omega arith
 input-few Input.Sheet = omega arith
 input-few Input.BufferOrName = omega arith

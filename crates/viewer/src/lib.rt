@@ -1,25 +1,13 @@
 // The questions for the C viewer, on byte slices and numbers. Each call answers 0, or the refusal as number | input << 8 | place << 16; the lent
 // numbers and bytes are written only where it answers 0.
 use property::PropertyAnswer;
-use refusal::Input;
 use refusal::Refusal;
 use relation::MatrixAnswer;
 use short_form::ShortFormAnswer;
 ghost use mathlib.Core.Path.{_≡_};
 ghost use Prim.Native.Nat.{_≤_};
-ghost use Rattle.refusal.specs.Refusal.{inputNumber};
 ghost use Rattle.viewer.specs.Packing.{packed};
 ghost use Rattle.viewer.specs.Shown.{lent, MarksShown, PropertyShown, ShortFormShown, SimulationShown};
-
-fn input_number(input: Input) -> u64
-    ensures { λ r. ⌜ r ≡ inputNumber input ⌝ }
-{
-    match input {
-        Input::Chart => 0,
-        Input::Sheet => 1,
-        Input::BufferOrName => 2,
-    }
-}
 
 // Places are small: at most 3,172 in a chart and 403 in a sheet.
 fn pack(refusal: Refusal) -> u64
@@ -27,7 +15,9 @@ fn pack(refusal: Refusal) -> u64
     ensures { λ r. ⌜ r ≡ packed refusal ⌝ }
 {
     let input = refusal.input;
-    refusal.number as u64 + 256 * input_number(input) + 65536 * (refusal.place as u64)
+    refusal.number as u64
+        + 256 * (refusal::input_number(input) as u64)
+        + 65536 * (refusal.place as u64)
 }
 
 // The marks of all pairs, in the buffer; the number of states and the rounds.

@@ -22,6 +22,9 @@ input-number-requires c κs = search needs
 cast-put-line : tie.Need-cast-put-line
 cast-put-line c = search needs
 
+cast-put-line-2 : tie.Need-cast-put-line-2
+cast-put-line-2 c = search needs
+
 put-line-requires : tie.Need-put-line-requires
 put-line-requires c κs = search needs
 
@@ -47,6 +50,7 @@ put-refusal-spec =
     put-bytes-requires
     input-number-requires
     cast-put-line
+    cast-put-line-2
     put-line-requires
     same-length
     returns)

@@ -24,8 +24,13 @@ slice-aggregate-make c = search needs
 make-requires : tie.Need-make-requires
 make-requires c κs = search needs
 
+of-lent-requires : tie.Need-of-lent-requires
+of-lent-requires c κs = search needs
+
 returns : tie.Need-returns
-returns c = promise-short (c .before .before .before .before .before .before .before .args .chart .now) (c .before .before .make .ensures) (c .before .before .before .before .before .before .before .args .buffer .now) (c .if1 .taken)
+returns c =
+    let a = c .before .before .before .before .before .before .before .before .args in
+    promise-short (a .chart .now) (c .before .before .before .make .ensures) (a .buffer .now) (c .before .if1 .taken) (c .of-lent .ensures)
 
 array-share-prefix-page : tie.Need-array-share-prefix-page
 array-share-prefix-page c = inside (c .before .before .before)
@@ -54,6 +59,7 @@ report-spec =
     page-room-requires
     slice-aggregate-make
     make-requires
+    of-lent-requires
     returns
     array-share-prefix-page
     slice-aggregate-put-bytes

@@ -23,23 +23,23 @@ free c kind f e =
 first-variable-requires : tie.Need-first-variable-requires
 first-variable-requires c κs = search needs
 
-refuse-sheet-requires : tie.Need-refuse-sheet-requires
-refuse-sheet-requires c κs = search needs
+of-sheet-requires : tie.Need-of-sheet-requires
+of-sheet-requires c κs = search needs
 
 returns : tie.Need-returns
 returns c kind f e n =
     let a = c .before .before .before .before .before .args in
     let v = c .before .before .first-variable in
     let place : v .result ≡ 3 + beforeVariable f = v .ensures kind f e in
-    promise-wrong (a .buffer .now) (form-variable (a .name) f (sheet-bound (a .sheet .now) kind f e (v .result) place (c .before .if1 .taken))) (rw place at (c .refuse-sheet .ensures))
+    promise-wrong (a .buffer .now) (form-variable (a .name) f (sheet-bound (a .sheet .now) kind f e (v .result) place (c .before .if1 .taken))) (rw place at (c .of-sheet .ensures))
 
-refuse-lent-requires : tie.Need-refuse-lent-requires
-refuse-lent-requires c κs = search needs
+of-lent-requires : tie.Need-of-lent-requires
+of-lent-requires c κs = search needs
 
 returns-2 : tie.Need-returns-2
 returns-2 c kind f e n =
     let a = c .before .before .before .before .before .before .args in
-    promise-wrong (a .buffer .now) (form-unnamed (a .name) f (free (c .before .before) kind f e) (c .before .if2 .taken)) (c .refuse-lent .ensures)
+    promise-wrong (a .buffer .now) (form-unnamed (a .name) f (free (c .before .before) kind f e) (c .before .if2 .taken)) (c .of-lent .ensures)
 
 more-nodes-requires : tie.Need-more-nodes-requires
 more-nodes-requires c κs = search needs
@@ -49,14 +49,14 @@ add-total c =
     let s = c .before .before .before .before .before .before in
     omega (arith, s .pre .0, c .more-nodes .ensures, more-few (s .args .name))
 
-refuse-sheet-requires-2 : tie.Need-refuse-sheet-requires-2
-refuse-sheet-requires-2 c κs = search needs
+of-sheet-requires-2 : tie.Need-of-sheet-requires-2
+of-sheet-requires-2 c κs = search needs
 
 returns-3 : tie.Need-returns-3
 returns-3 c kind f e n =
     let a = c .before .before .before .before .before .before .before .before .args in
     let large : 200 < nodes (shortForm (a .name) f) = omega (arith, c .before .before .more-nodes .ensures, form-nodes (a .name) f) in
-    promise-wrong (a .buffer .now) (form-large (a .name) f (free (c .before .before .before .before) kind f e) (c .before .before .before .if2 .left) large) (c .refuse-sheet2 .ensures)
+    promise-wrong (a .buffer .now) (form-large (a .name) f (free (c .before .before .before .before) kind f e) (c .before .before .before .if2 .left) large) (c .of-sheet2 .ensures)
 
 add-size : tie.Need-add-size
 add-size c = search needs
@@ -69,14 +69,14 @@ add-size-2 c =
     let s = c .before .before .before .before .before .before .before .before in
     omega (arith, s .good, c .operand-size .ensures, operand-short (s .args .name))
 
-refuse-lent-requires-2 : tie.Need-refuse-lent-requires-2
-refuse-lent-requires-2 c κs = search needs
+of-lent-requires-2 : tie.Need-of-lent-requires-2
+of-lent-requires-2 c κs = search needs
 
 returns-4 : tie.Need-returns-4
 returns-4 c kind f e n =
     let a = c .before .before .before .before .before .before .before .before .before .before .args in
     promise-short (a .buffer .now) (form-made (a .name) f (free (c .before .before .before .before .before .before) kind f e) (c .before .before .before .before .before .if2 .left) (omega (arith, c .before .before .before .before .more-nodes .ensures, form-nodes (a .name) f)))
-    (omega (arith, c .before .before .operand-size .ensures, form-length (a .sheet .now) kind f e (a .name))) (c .refuse-lent2 .ensures)
+    (omega (arith, c .before .before .operand-size .ensures, form-length (a .sheet .now) kind f e (a .name))) (c .of-lent2 .ensures)
 
 cast-put-form : tie.Need-cast-put-form
 cast-put-form c = search needs
@@ -100,18 +100,18 @@ of-formula-spec =
     tie.close
     (tie.spec
     first-variable-requires
-    refuse-sheet-requires
+    of-sheet-requires
     returns
-    refuse-lent-requires
+    of-lent-requires
     returns-2
     more-nodes-requires
     add-total
-    refuse-sheet-requires-2
+    of-sheet-requires-2
     returns-3
     add-size
     operand-size-requires
     add-size-2
-    refuse-lent-requires-2
+    of-lent-requires-2
     returns-4
     cast-put-form
     put-form-requires
