@@ -3,7 +3,7 @@ use Prim.Native.Nat.{ℕ, zero, suc, _+_, _-_, _*_, _≤_, _<_}
 use mathlib.Core.Path.{_≡_, refl, ap, sym, subst, _∙_}
 use mathlib.Core.List.{List}
 use native.Mathlib.Omega.{arith}
-use native.Mathlib.Nat.{le-trans, mul-le-mul-left, mul-le-mul-right, zero-add}
+use native.Mathlib.Nat.{zero-add}
 use borrow.Author.Tests.{lt-ltb, le-ltb}
 use lib.ListN.{length, take}
 use lib.Seq.{take-at}
@@ -20,12 +20,12 @@ use Rattle.chart.proofs.Refused as Refusals
 use Rattle.nearness.specs.Relation.{Near}
 use Rattle.nearness.proofs.Mark.{mark-unique}
 use Rattle.nearness.proofs.Rounds.{near-rounds-le, mark-le}
-use Rattle.relation.specs.Promise.{Answers}
+use Rattle.relation.specs.Promise.{byteAt, Answers}
 use Rattle.relation.specs.declared.Matrix.{Matrix}
 use Rattle.relation.specs.declared.MatrixAnswer.{MatrixAnswer}
 use Rattle.relation.specs.declared.MatrixAnswer.the-variants as Answer
+use Rattle.relation.proofs.Cells.{cells-few}
 use Rattle.relation.proofs.Ranges.{stands-chart, targets-below}
-use Rattle.relation.specs.Promise.{byteAt}
 use Rattle.marks.specs.Promise.{MarksOf, MarksPromise}
 use Rattle.marks.proofs.Promise.{always-answered}
 use Rattle.text.specs.Text.{placed}
@@ -105,15 +105,12 @@ report-determined chart old new new′ answer answer′ p q =
 
 -- ---- the marks promise gives it
 
-square-few : (n : ℕ) → n ≤ 64 → n * n ≤ 4096
-square-few n h = le-trans (mul-le-mul-left n h) (mul-le-mul-right 64 h)
-
 module _ (chart old new : List ℕ) (answer : MatrixAnswer) (p : MarksPromise chart old new answer) (room : length old ≡ 4096) where
   module _ (sh : Shape) (e : readChart chart ≡ Read.Chart sh) where
     fits : sh .n * sh .n ≤ length old
-    fits = omega (arith, square-few (sh .n) (accepted chart sh e .states-few))
+    fits = omega (arith, cells-few (sh .n) (accepted chart sh e .states-few))
 
-  pub chart-refused : (r : Refusal) → answer ≡ Answer.Refused r → readChart chart ≡ Read.Refused r
+  chart-refused : (r : Refusal) → answer ≡ Answer.Refused r → readChart chart ≡ Read.Refused r
   chart-refused r a = go (readChart chart) refl
     where
       go : (x : ChartRead) → readChart chart ≡ x → readChart chart ≡ Read.Refused r
@@ -123,7 +120,7 @@ module _ (chart old new : List ℕ) (answer : MatrixAnswer) (p : MarksPromise ch
           rw g at e
       go (Read.Chart sh) e = absurd (always-answered chart sh e old new answer (fits sh e) p r a)
 
-  pub chart-marked : (given : Matrix) → answer ≡ Answer.Given given → (sh : Shape) × (readChart chart ≡ Read.Chart sh) × MarksOf (sh .n) (sh .m) (chartIn chart sh .steps) new given
+  chart-marked : (given : Matrix) → answer ≡ Answer.Given given → (sh : Shape) × (readChart chart ≡ Read.Chart sh) × MarksOf (sh .n) (sh .m) (chartIn chart sh .steps) new given
   chart-marked given a = go (readChart chart) refl
     where
       go : (x : ChartRead) → readChart chart ≡ x → (sh : Shape) × (readChart chart ≡ Read.Chart sh) × MarksOf (sh .n) (sh .m) (chartIn chart sh .steps) new given
@@ -152,7 +149,7 @@ module _ (chart old new : List ℕ) (answer : MatrixAnswer) (p : MarksPromise ch
   states-marked given a =
       let m = chart-marked given a in
       let few : given .states ≤ 64 = omega (arith, m .2 .states-said, accepted chart (m .0) (m .1) .states-few) in
-      (few, omega (arith, square-few (given .states) few, p .length-stays))
+      (few, omega (arith, cells-few (given .states) few, p .length-stays))
 
 -- ---- on a page
 

@@ -22,7 +22,7 @@ use Rattle.short_form.specs.ShortForm.{always, possible, safePath, event
 use Rattle.short_form.specs.Reachable.{Reachable, stay, onward, Moves, Stuck, Goes, Run}
 
 -- a formula without variable means the same whatever set stands for the variable
-pub free-same : (m : ℕ) (steps : List Step) (f : Formula) → So (variableFree f) → (T U : ℕ → Bool) (s : ℕ) → holds m steps f T s ≡ holds m steps f U s
+free-same : (m : ℕ) (steps : List Step) (f : Formula) → So (variableFree f) → (T U : ℕ → Bool) (s : ℕ) → holds m steps f T s ≡ holds m steps f U s
 unfolding holds variableFree
 free-same m steps variable v T U s = never v
 free-same m steps top v T U s = refl

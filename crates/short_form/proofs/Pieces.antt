@@ -15,7 +15,7 @@ use Rattle.short_form.specs.Pieces.{operatorOf, operandOf, moreNodes}
 
 -- what holds in each row of a table by name holds of its choice
 module _ {A : Type 0} (P : A → Type 0) where
-  in-each : (p q r : Bool) {w x y z : A} → P w → P x → P y → P z → P (pick p w (pick q x (pick r y z)))
+  pub in-each : (p q r : Bool) {w x y z : A} → P w → P x → P y → P z → P (pick p w (pick q x (pick r y z)))
   in-each true q r a b c d = a
   in-each false true r a b c d = b
   in-each false false true a b c d = c

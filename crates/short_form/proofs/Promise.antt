@@ -1,11 +1,14 @@
 -- What the promise says in each case, and that it determines the answer and every byte.
 use Prim.Native.Nat.{ℕ, _+_, _<_, _≤_}
-use mathlib.Core.Path.{_≡_, sym, _∙_}
-use mathlib.Core.Bool.{true, false}
+use mathlib.Core.Path.{_≡_, refl, sym, _∙_}
+use mathlib.Core.Bool.{Bool, true, false}
 use mathlib.Core.List.{List}
-use borrow.Author.Tests.{lt-ltb, le-ltb}
+use native.Mathlib.Omega.{arith}
+use borrow.Author.Tests.{lt-ltb, le-ltb, ltb-false}
 use native.Mathlib.Nat.{zero-add}
+use lib.Dec.{ltb}
 use lib.ListN.{length}
+use Rattle.settle.specs.Test.{pick}
 use Rattle.refusal.specs.Refusal.{sheetRefusal, lentRefusal}
 use Rattle.refusal.specs.declared.Refusal.{Refusal}
 use Rattle.sheet.specs.Formula.{Formula, variableFree, nodes}
@@ -35,6 +38,26 @@ module _ (name : ℕ) (f : Formula) where
     pub form-made : name ≤ 3 → nodes (shortForm name f) ≤ 200 → formOf name f ≡ form (kindWritten name) (shortForm name f)
     unfolding formOf
     form-made h k = rw (free, le-ltb _ _ h, le-ltb _ _ k)
+
+  -- what holds in each case holds of the form
+  pub form-cases : (P : Form → Type 0) → P (wrong (sheetRefusal 16 (3 + beforeVariable f))) → P (wrong (lentRefusal 17)) → P (wrong (sheetRefusal 10 2))
+      → (nodes (shortForm name f) ≤ 200 → P (form (kindWritten name) (shortForm name f))) → P (formOf name f)
+  unfolding formOf
+  form-cases P bound unnamed large made = go (variableFree f) (ltb 3 name) (ltb 200 (nodes (shortForm name f))) refl
+    where
+      go : (x y z : Bool) → ltb 200 (nodes (shortForm name f)) ≡ z
+          → P (pick x (pick y (wrong (lentRefusal 17)) (pick z (wrong (sheetRefusal 10 2)) (form (kindWritten name) (shortForm name f)))) (wrong (sheetRefusal 16 (3 + beforeVariable f))))
+      go false y z e = bound
+      go true true z e = unnamed
+      go true false true e = large
+      go true false false e = made (ltb-false _ _ e)
+
+-- a refusal is no form and nothing written
+pub no-form : {A : Type 0} {r : Refusal} {kind : ℕ} {f : Formula} → wrong r ≡ form kind f → A
+no-form e = let z : _≡_ {A = ℕ} 0 1 = cc in absurd (omega arith)
+
+pub not-written : {A : Type 0} {r : Refusal} {size : ℕ} → Refused r ≡ Written size → A
+not-written e = let z : _≡_ {A = ℕ} 0 1 = cc in absurd (omega arith)
 
 -- ---- what is owed in each case
 

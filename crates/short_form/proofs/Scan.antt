@@ -47,7 +47,7 @@ one-scanned false x rest = omega arith
 regroup : (f g : Formula) (rest : List ℕ) → 1 + scan false ((formulaBytes f ++ formulaBytes g) ++ rest) ≡ 1 + scan false (formulaBytes f ++ (formulaBytes g ++ rest))
 regroup f g rest = ap (λ (l : List ℕ). 1 + scan false l) (append-assoc (formulaBytes f) (formulaBytes g) rest)
 
-pub scan-formula : (f : Formula) (rest : List ℕ) → scan false (formulaBytes f ++ rest) ≡ pick (variableFree f) (beforeVariable f + scan false rest) (beforeVariable f)
+scan-formula : (f : Formula) (rest : List ℕ) → scan false (formulaBytes f ++ rest) ≡ pick (variableFree f) (beforeVariable f + scan false rest) (beforeVariable f)
 unfolding scan formulaBytes variableFree beforeVariable
 scan-formula variable rest = refl
 scan-formula top rest = refl
@@ -96,6 +96,14 @@ within (and f g) = two-within (variableFree f) (variableFree g) _ _ _ _ _ (lengt
 within (or f g) = two-within (variableFree f) (variableFree g) _ _ _ _ _ (length-append (formulaBytes f) (formulaBytes g)) (within f) (within g)
 within (diamond l f) = one-within (variableFree f) _ _ (within f)
 within (box l f) = one-within (variableFree f) _ _ (within f)
+
+pub before-within : (f : Formula) → beforeVariable f ≤ length (formulaBytes f)
+unfolding Within
+before-within f = go (variableFree f) (within f)
+  where
+    go : (p : Bool) → Within p (beforeVariable f) (length (formulaBytes f)) → beforeVariable f ≤ length (formulaBytes f)
+    go true w = omega arith
+    go false w = omega arith
 
 no-variable : (f : Formula) → length (formulaBytes f) ≤ beforeVariable f → variableFree f ≡ true
 unfolding Within

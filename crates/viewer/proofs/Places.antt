@@ -1,6 +1,6 @@
 -- A refusal that a question promises has a small place, so that it can be packed. Assumes nothing.
-use Prim.Native.Nat.{ℕ, suc, _+_, _*_, _≤_, _<_}
-use mathlib.Core.Path.{_≡_, refl, ap}
+use Prim.Native.Nat.{ℕ, _*_, _≤_, _<_}
+use mathlib.Core.Path.{_≡_, refl, ap, sym}
 use mathlib.Core.Bool.{Bool, true, false}
 use mathlib.Core.List.{List}
 use native.Mathlib.Omega.{arith}
@@ -8,23 +8,25 @@ use native.Mathlib.Decide.{decLt}
 use lib.Dec.{ltb}
 use lib.ListN.{length}
 use Rattle.settle.specs.Test.{pick}
-use Rattle.refusal.specs.Refusal.{sheetRefusal, lentRefusal}
+use Rattle.refusal.specs.Refusal.{lentRefusal}
 use Rattle.refusal.specs.declared.Refusal.{Refusal}
 use Rattle.chart.specs.Reading.{readChart}
 use Rattle.chart.specs.declared.Shape.{Shape}
 use Rattle.chart.specs.declared.ChartRead.{ChartRead}
 use Rattle.chart.specs.declared.ChartRead.the-variants as Read
 use Rattle.chart.proofs.Refused.{refused as chart-refused}
-use Rattle.sheet.specs.Formula.{Formula, variable, top, bottom, and, or, diamond, box, variableFree, nodes}
+use Rattle.sheet.specs.Formula.{Formula, nodes}
 use Rattle.sheet.specs.Reading.{Sheet, sheet, refused, readSheet}
+use Rattle.sheet.proofs.Found.{bytes-few}
 use Rattle.sheet.proofs.Accepted.{layout-read, refusal-small}
 use Rattle.relation.specs.Promise.{Saying, Relations, MatrixPromise}
 use Rattle.relation.specs.declared.MatrixAnswer.the-variants as Matrices
 use Rattle.property.specs.Promise.{PropertyPromise}
 use Rattle.property.specs.declared.PropertyAnswer.the-variants as Property
-use Rattle.short_form.specs.ShortForm.{shortForm, kindWritten}
-use Rattle.short_form.specs.Promise.{beforeVariable, Form, form, wrong, formOf, formOfSheet, formOfChart, answerOf, ShortFormPromise}
+use Rattle.short_form.specs.Promise.{Form, form, wrong, formOf, formOfSheet, formOfChart, answerOf, ShortFormPromise}
 use Rattle.short_form.specs.declared.ShortFormAnswer.the-variants as Answer
+use Rattle.short_form.proofs.Scan.{before-within}
+use Rattle.short_form.proofs.Promise.{form-cases, no-form, not-written}
 
 abbrev pub Near : Refusal → Type 0
 Near r = r .place ≤ 3172
@@ -66,34 +68,13 @@ property-place chart bytes r p = by-chart (readChart chart) refl
 
 -- ---- short form
 
-two-few : (x : Bool) (a b c d : ℕ) → a ≤ 2 * c → b ≤ 2 * d → 1 + pick x (a + b) a ≤ 2 * suc (c + d)
-two-few true a b c d h k = omega arith
-two-few false a b c d h k = omega arith
-
-before-few : (f : Formula) → beforeVariable f ≤ 2 * nodes f
-unfolding beforeVariable nodes
-before-few variable = omega arith
-before-few top = omega arith
-before-few bottom = omega arith
-before-few (and f g) = two-few (variableFree f) _ _ _ _ (before-few f) (before-few g)
-before-few (or f g) = two-few (variableFree f) _ _ _ _ (before-few f) (before-few g)
-before-few (diamond l f) = omega (arith, before-few f)
-before-few (box l f) = omega (arith, before-few f)
-
 wrong-is : {r s : Refusal} → wrong r ≡ wrong s → s ≡ r
 wrong-is e = cc
 
 formula-place : (name : ℕ) (f : Formula) (r : Refusal) → nodes f ≤ 200 → formOf name f ≡ wrong r → Near r
-unfolding formOf
-formula-place name f r few e = go (variableFree f) (ltb 3 name) (ltb 200 (nodes (shortForm name f))) e
-  where
-    go : (x y z : Bool)
-        → pick x (pick y (wrong (lentRefusal 17)) (pick z (wrong (sheetRefusal 10 2)) (form (kindWritten name) (shortForm name f)))) (wrong (sheetRefusal 16 (3 + beforeVariable f))) ≡ wrong r
-        → Near r
-    go false y z e = near-of r _ (wrong-is e) (omega (arith, before-few f))
-    go true true z e = near-of r _ (wrong-is e) (omega arith)
-    go true false true e = near-of r _ (wrong-is e) (omega arith)
-    go true false false e = let z : _≡_ {A = ℕ} 0 1 = cc in absurd (omega arith)
+formula-place name f r few =
+    form-cases name f (λ (w : Form). w ≡ wrong r → Near r) (λ e. near-of r _ (wrong-is e) (omega (arith, before-within f, bytes-few f)))
+    (λ e. near-of r _ (wrong-is e) (omega arith)) (λ e. near-of r _ (wrong-is e) (omega arith)) (λ h e. no-form (sym e))
 
 pub short-form-place : (chart bytes : List ℕ) (name : ℕ) (old new : List ℕ) (r : Refusal) → ShortFormPromise chart bytes name old new (Answer.Refused r) → Near r
 short-form-place chart bytes name old new r p = by-chart (readChart chart) refl (p .answered)
@@ -104,7 +85,7 @@ short-form-place chart bytes name old new r p = by-chart (readChart chart) refl 
       where
         go : (size : ℕ) (x : Bool) → Answer.Refused r ≡ pick x (Answer.Refused (lentRefusal 14)) (Answer.Written size) → Near r
         go size true e = let q : r ≡ lentRefusal 14 = cc in near-of r _ q (omega arith)
-        go size false e = let z : _≡_ {A = ℕ} 0 1 = cc in absurd (omega arith)
+        go size false e = not-written e
 
     by-sheet : (sh : Shape) (x : Sheet) → readSheet bytes (sh .m) ≡ x → (s : Refusal) → formOfSheet name x ≡ wrong s → Near s
     by-sheet sh (refused t) d s e = near-of s t (wrong-is e) (omega (arith, refusal-small bytes (sh .m) t d .place-small))

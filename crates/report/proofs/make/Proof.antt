@@ -1,7 +1,6 @@
 use borrow.Author.Needs.{needs}
 use native.Mathlib.Omega.{arith}
 use mathlib.Core.Path.{sym}
-use Rattle.report.specs.Text.{refusedText}
 use Rattle.report.proofs.Promise.{report-short, report-refused, report-marked, states-marked, made}
 use Rattle.report.proofs.make.Statement.{statement}
 use Rattle.report.proofs.make.Tie as tie
@@ -22,8 +21,9 @@ put-refusal-requires : tie.Need-put-refusal-requires
 put-refusal-requires c κs =
     let s = c .before .before .before .before .before .before .before .before .before .before in
     let m = c .before .before .before .before .before .marks in
-    let r = c .before .before .r .given .0 .0 in
-    omega (arith, s .pre, report-short (s .args .chart .now) (refusedText r) (report-refused (s .args .chart .now) _ _ _ (m .ensures) (sym (c .before .before .before .before .before .before .before .matrix-room .ensures)) r (c .before .before .r .given .1)))
+    let r = c .before .before .r .given in
+    let room = sym (c .before .before .before .before .before .before .before .matrix-room .ensures) in
+    omega (arith, s .pre, report-short (s .args .chart .now) _ (report-refused (s .args .chart .now) _ _ _ (m .ensures) room (r .0 .0) (r .1)))
 
 enum-known-given : tie.Need-enum-known-given
 enum-known-given c = search needs
@@ -35,10 +35,10 @@ put-chart-requires : tie.Need-put-chart-requires
 put-chart-requires c κs =
     let s = c .before .before .before .before .before .before .before .before .before .before .before in
     let m = c .before .before .before .before .before .before .marks in
-    let g = c .before .before .before .given .given .0 .0 in
+    let g = c .before .before .before .given .given in
     let room = sym (c .before .before .before .before .before .before .before .before .matrix-room .ensures) in
-    let r = report-marked (s .args .chart .now) _ _ _ (m .ensures) room g (c .before .before .before .given .given .1) in
-    (states-marked (s .args .chart .now) _ _ _ (m .ensures) room g (c .before .before .before .given .given .1), omega (arith, s .pre, report-short (s .args .chart .now) _ r))
+    let r = report-marked (s .args .chart .now) _ _ _ (m .ensures) room (g .0 .0) (g .1) in
+    (states-marked (s .args .chart .now) _ _ _ (m .ensures) room (g .0 .0) (g .1), omega (arith, s .pre, report-short (s .args .chart .now) _ r))
 
 same-length : tie.Need-same-length
 same-length c = search needs
@@ -47,8 +47,9 @@ returns : tie.Need-returns
 returns c =
     let a = c .before .before .before .before .before .before .before .before .before .before .before .before .before .args in
     let m = c .before .before .before .before .before .before .before .before .marks in
-    let r = c .before .before .before .before .before .r .given .0 .0 in
-    made (a .chart .now) (a .page .now) (refusedText r) (report-refused (a .chart .now) _ _ _ (m .ensures) (sym (c .before .before .before .before .before .before .before .before .before .before .matrix-room .ensures)) r (c .before .before .before .before .before .r .given .1)) (c .before .before .put-refusal .ensures)
+    let r = c .before .before .before .before .before .r .given in
+    let room = sym (c .before .before .before .before .before .before .before .before .before .before .matrix-room .ensures) in
+    made (a .chart .now) (a .page .now) _ (report-refused (a .chart .now) _ _ _ (m .ensures) room (r .0 .0) (r .1)) (c .before .before .put-refusal .ensures)
 
 same-length-2 : tie.Need-same-length-2
 same-length-2 c = search needs
@@ -57,8 +58,9 @@ returns-2 : tie.Need-returns-2
 returns-2 c =
     let a = c .before .before .before .before .before .before .before .before .before .before .before .before .before .before .args in
     let m = c .before .before .before .before .before .before .before .before .before .marks in
-    let g = c .before .before .before .before .before .before .given .given .0 .0 in
-    made (a .chart .now) (a .page .now) _ (report-marked (a .chart .now) _ _ _ (m .ensures) (sym (c .before .before .before .before .before .before .before .before .before .before .before .matrix-room .ensures)) g (c .before .before .before .before .before .before .given .given .1)) (c .before .before .put-chart .ensures)
+    let g = c .before .before .before .before .before .before .given .given in
+    let room = sym (c .before .before .before .before .before .before .before .before .before .before .before .matrix-room .ensures) in
+    made (a .chart .now) (a .page .now) _ (report-marked (a .chart .now) _ _ _ (m .ensures) room (g .0 .0) (g .1)) (c .before .before .put-chart .ensures)
 
 pub make-spec : {M : Type 1} → statement M
 make-spec =

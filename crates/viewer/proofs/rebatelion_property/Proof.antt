@@ -19,10 +19,16 @@ pack-requires : tie.Need-pack-requires
 pack-requires c κs = property-place _ _ _ (rw (c .before .answer2 .given .1) at (c .before .before .before .property .ensures))
 
 returns : tie.Need-returns
-returns c = record { answer = c .before .before .before .before .property .result; promised = c .before .before .before .before .property .ensures; code-is = rw (c .before .before .answer .given .1); word-is = rw (c .before .before .answer .given .1); count-is = rw (c .before .before .answer .given .1); rounds-is = rw (c .before .before .answer .given .1) }
+returns c =
+    let q = c .before .before .before .before .property in
+    let e = c .before .before .answer .given .1 in
+    record { answer = q .result; promised = q .ensures; code-is = rw e; word-is = rw e; count-is = rw e; rounds-is = rw e }
 
 returns-2 : tie.Need-returns-2
-returns-2 c = record { answer = c .before .before .before .before .property .result; promised = c .before .before .before .before .property .ensures; code-is = rw (c .before .before .answer2 .given .1) (c .pack .ensures); word-is = rw (c .before .before .answer2 .given .1); count-is = rw (c .before .before .answer2 .given .1); rounds-is = rw (c .before .before .answer2 .given .1) }
+returns-2 c =
+    let q = c .before .before .before .before .property in
+    let e = c .before .before .answer2 .given .1 in
+    record { answer = q .result; promised = q .ensures; code-is = rw e (c .pack .ensures); word-is = rw e; count-is = rw e; rounds-is = rw e }
 
 pub rebatelion-property-spec : {M : Type 1} → statement M
 rebatelion-property-spec =

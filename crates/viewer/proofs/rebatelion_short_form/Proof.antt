@@ -19,13 +19,19 @@ same-length : tie.Need-same-length
 same-length c = search needs
 
 returns : tie.Need-returns
-returns c = record { answer = c .before .before .before .before .before .short-form .result; promised = c .before .before .before .before .before .short-form .ensures; code-is = rw (c .before .answer .given .1); written-is = rw (c .before .answer .given .1) }
+returns c =
+    let q = c .before .before .before .before .before .short-form in
+    let e = c .before .answer .given .1 in
+    record { answer = q .result; promised = q .ensures; code-is = rw e; written-is = rw e }
 
 same-length-2 : tie.Need-same-length-2
 same-length-2 c = search needs
 
 returns-2 : tie.Need-returns-2
-returns-2 c = record { answer = c .before .before .before .before .before .before .short-form .result; promised = c .before .before .before .before .before .before .short-form .ensures; code-is = rw (c .before .before .answer2 .given .1) (c .pack .ensures); written-is = rw (c .before .before .answer2 .given .1) }
+returns-2 c =
+    let q = c .before .before .before .before .before .before .short-form in
+    let e = c .before .before .answer2 .given .1 in
+    record { answer = q .result; promised = q .ensures; code-is = rw e (c .pack .ensures); written-is = rw e }
 
 pub rebatelion-short-form-spec : {M : Type 1} → statement M
 rebatelion-short-form-spec =

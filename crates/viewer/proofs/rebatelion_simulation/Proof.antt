@@ -19,13 +19,19 @@ same-length : tie.Need-same-length
 same-length c = search needs
 
 returns : tie.Need-returns
-returns c = record { answer = c .before .before .before .before .before .simulation .result; promised = c .before .before .before .before .before .simulation .ensures; code-is = rw (c .before .answer .given .1); states-is = rw (c .before .answer .given .1); rounds-is = rw (c .before .answer .given .1) }
+returns c =
+    let q = c .before .before .before .before .before .simulation in
+    let e = c .before .answer .given .1 in
+    record { answer = q .result; promised = q .ensures; code-is = rw e; states-is = rw e; rounds-is = rw e }
 
 same-length-2 : tie.Need-same-length-2
 same-length-2 c = search needs
 
 returns-2 : tie.Need-returns-2
-returns-2 c = record { answer = c .before .before .before .before .before .before .simulation .result; promised = c .before .before .before .before .before .before .simulation .ensures; code-is = rw (c .before .before .answer2 .given .1) (c .pack .ensures); states-is = rw (c .before .before .answer2 .given .1); rounds-is = rw (c .before .before .answer2 .given .1) }
+returns-2 c =
+    let q = c .before .before .before .before .before .before .simulation in
+    let e = c .before .before .answer2 .given .1 in
+    record { answer = q .result; promised = q .ensures; code-is = rw e (c .pack .ensures); states-is = rw e; rounds-is = rw e }
 
 pub rebatelion-simulation-spec : {M : Type 1} → statement M
 rebatelion-simulation-spec =
