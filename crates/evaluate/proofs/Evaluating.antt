@@ -22,10 +22,9 @@ use Rattle.sheet.specs.Reading.{nodeAt, leafOf, twoOf, labelOf, oneOf, Parsed, 
 use Rattle.sheet.specs.declared.Node.{Node}
 use Rattle.sheet.specs.declared.Node.the-variants.{Leaf, Two, One, Bad}
 use Rattle.sheet.proofs.Meaning.{some-every, every-every}
-use Rattle.sheet.proofs.Reading.{parse-none}
-use Rattle.sheet.proofs.Found.{NodeFound, node-found, formula-found, parse-node}
+use Rattle.sheet.proofs.Found.{NodeFound, node-found, formula-fewer}
+use Rattle.sheet.proofs.Parsing.{parse-none, parse-node}
 use Rattle.sheet.proofs.Written.{leaf-at, two-at}
-use Rattle.sheet.proofs.Accepted.{nodes-positive}
 use Rattle.words.specs.Words.{wordOf, member}
 use Rattle.words.proofs.Words.{step-word, word-none, word-cong, word-ext, word-member, not-word, word-lt, all-word, and-word, or-word}
 use Rattle.evaluate.specs.Evaluating.{ReadAs, asksFor, reaches, keeps, leafWord, joinedWord, modalWord, WasRead, valueOf}
@@ -87,11 +86,11 @@ reach-more s p n a F i h =
 
 -- ---- box: none of the asked-for steps reaches the others
 
-pub reach-cong : (steps : List Step) (a : ℕ) (F G : ℕ → Bool) → ((u : Step) → Mem u steps → F (u .target) ≡ G (u .target)) → (x : ℕ) → reaches steps a F x ≡ reaches steps a G x
+reach-cong : (steps : List Step) (a : ℕ) (F G : ℕ → Bool) → ((u : Step) → Mem u steps → F (u .target) ≡ G (u .target)) → (x : ℕ) → reaches steps a F x ≡ reaches steps a G x
 unfolding reaches some
 reach-cong steps a F G e x = any-cong _ _ steps (λ u m. rw (e u m))
 
-pub keep-cong : (steps : List Step) (a : ℕ) (F G : ℕ → Bool) → ((u : Step) → Mem u steps → F (u .target) ≡ G (u .target)) → (x : ℕ) → keeps steps a F x ≡ keeps steps a G x
+keep-cong : (steps : List Step) (a : ℕ) (F G : ℕ → Bool) → ((u : Step) → Mem u steps → F (u .target) ≡ G (u .target)) → (x : ℕ) → keeps steps a F x ≡ keeps steps a G x
 unfolding keeps each
 keep-cong steps a F G e x = all-cong _ _ steps (λ u m. rw (e u m))
 
@@ -272,7 +271,7 @@ module _ (s : List ℕ) (sh : Shape) (e : ReadAs s sh) (set : ℕ) (small : set 
     value-fewer = go (parse left b m at left) refl was
       where
         go : (u : Parsed) → parse left b m at left ≡ u → WasRead u → val u .rest < left
-        go (parsed f after rest) e w = omega (arith, formula-found left b m at left f after rest e .counted, nodes-positive f)
+        go (parsed f after rest) e w = formula-fewer left b m at left f after rest e
         go (wrong r) e w = absurd w
 
     abbrev node : ℕ

@@ -2,7 +2,6 @@
 // what is read or written.
 use libc::STDOUT_FILENO;
 use report::ReportAnswer;
-ghost use Prim.Native.Nat.{_≤_};
 ghost use lib.ListN.{length};
 ghost use Rattle.printer.specs.Filled.{Within};
 

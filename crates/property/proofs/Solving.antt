@@ -36,10 +36,10 @@ round-word s sh T (parsed f at left) = refl
 round-word s sh T (wrong r) = sym (word-none (sh .n))
 
 -- the words of two tests are equal exactly where the tests are
-pub same-word : (n : ℕ) (P Q : ℕ → Bool) → wordOf n P ≡ wordOf n Q → Same (below n) P Q
+same-word : (n : ℕ) (P Q : ℕ → Bool) → wordOf n P ≡ wordOf n Q → Same (below n) P Q
 same-word n P Q e x i = let h = below-e n x i in sym (word-member n x P h) ∙ ap (λ (w : ℕ). member w x) e ∙ word-member n x Q h
 
-pub word-same : (n : ℕ) (P Q : ℕ → Bool) → Same (below n) P Q → wordOf n P ≡ wordOf n Q
+word-same : (n : ℕ) (P Q : ℕ → Bool) → Same (below n) P Q → wordOf n P ≡ wordOf n Q
 word-same n P Q e = word-cong n P Q (λ x h. e x (below-i n x h))
 
 -- the loop, after so many rounds: none of the rounds before was settled

@@ -86,7 +86,7 @@ module _ (bytes : List ℕ) (at n : ℕ) (first : List ℕ) (w : Sorted bytes at
         let a = range-of q (j .0) q-in (j .1) (ap (λ (x : Step). x .source) (sym (j .2)) ∙ u .2) in
         f .3 (j .0) (a .0) (a .1) (ap (λ (x : Step). x .action) (sym (j .2)) ∙ u .3) (subst (λ (x : Step). So (R (targetAt bytes at i, x .target))) (j .2) (u .4))
 
-    pub matched-is : (b : Bool) → Answer b → b ≡ matched (stepsAt bytes at t) R p q
+    matched-is : (b : Bool) → Answer b → b ≡ matched (stepsAt bytes at t) R p q
     matched-is true f = ext (λ _. all-matched f) (λ _. refl)
     matched-is false f = ext never (λ h. absurd (not-matched f h))
 

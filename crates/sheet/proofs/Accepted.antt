@@ -7,12 +7,12 @@ use native.Mathlib.Omega.{arith}
 use borrow.Author.Tests.{le-ltb, lt-leb}
 use lib.ListN.{length, getD, drop, drop-of-length-le}
 use Rattle.refusal.specs.declared.Refusal.{Refusal}
-use Rattle.sheet.specs.Formula.{Formula, variable, top, bottom, and, or, diamond, box, nodes}
+use Rattle.sheet.specs.Formula.{Formula, nodes}
 use Rattle.sheet.specs.Layout.{formulaBytes, encode, WellFormed}
 use Rattle.sheet.specs.Reading.{parsed, parse, Sheet, sheet, refused, readNodes, readSheet, sheetRead}
 use Rattle.sheet.specs.declared.Outline.{Outline}
 use Rattle.sheet.specs.declared.SheetRead.the-variants as Read
-use Rattle.sheet.proofs.Found.{FaultBy, byte-then, formula-found, SheetAt, SheetFound, sheet-found}
+use Rattle.sheet.proofs.Found.{FaultBy, nodes-positive, byte-then, formula-found, SheetAt, SheetFound, sheet-found}
 use Rattle.sheet.proofs.Written.{formula-written}
 
 -- ---- what the reader's answer says
@@ -28,7 +28,6 @@ pub record Formed (s : List ℕ) (m : ℕ) (o : Outline) : Type 0 where
   pub parsed-is : parse (o .nodes) s m 3 (o .nodes) ≡ parsed formula after 0
   pub read-is : readSheet s m ≡ sheet (o .kind) (o .nodes) formula
   pub kind-known : o .kind ≤ 2
-  pub nodes-some : 1 ≤ o .nodes
   pub nodes-few : o .nodes ≤ 200
   pub whole : length s ≡ after
 
@@ -52,7 +51,6 @@ formed s m o e = go (readSheet s m) refl e
           parsed-is = recount c (here .formula-is);
           read-is = rw (k, c) at q;
           kind-known = omega (arith, here .kind-known);
-          nodes-some = omega (arith, here .count-some);
           nodes-few = omega (arith, here .count-few);
           whole = omega (arith, here .ends, found .stands .inside);
         }
@@ -65,16 +63,6 @@ refused-exactly s m r = (go (readSheet s m), λ e. ap sheetRead e)
     go (sheet kind count f) e = let z : _≡_ {A = ℕ} 0 1 = cc in absurd (omega arith)
 
 -- ---- accepted exactly if the layout is followed
-
-pub nodes-positive : (f : Formula) → 1 ≤ nodes f
-unfolding nodes
-nodes-positive variable = omega arith
-nodes-positive top = omega arith
-nodes-positive bottom = omega arith
-nodes-positive (and f g) = omega arith
-nodes-positive (or f g) = omega arith
-nodes-positive (diamond l f) = omega arith
-nodes-positive (box l f) = omega arith
 
 -- a sheet that was read is its own layout
 pub layout-read : (s : List ℕ) (m kind count : ℕ) (f : Formula) → readSheet s m ≡ sheet kind count f
@@ -107,7 +95,7 @@ layout-written m few kind f w =
     let left : nodes f - nodes f ≡ 0 = omega arith in
     let whole : length s ≤ 3 + length (formulaBytes f) = omega arith in
     let formula : parse (nodes f) s m 3 (nodes f) ≡ parsed f (3 + length (formulaBytes f)) 0 =
-    rw left at (formula-written s m few f (w .labels-in) 3 (nodes f) (nodes f) [] (omega arith) (omega arith) (rw append-nil)) in
+    rw left at (formula-written s m few f (w .labels-in) 3 (nodes f) [] (omega arith) (rw append-nil)) in
     let long : 2 < length s = omega arith in
     rw (
       lt-leb (length s) 0 (omega arith),

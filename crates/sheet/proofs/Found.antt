@@ -1,12 +1,10 @@
 -- What reading finds, case by case: what stands in the bytes where it succeeds, and how far on the fault lies where it does not.
 use Prim.Native.Nat.{ℕ, zero, suc, _+_, _-_, _*_, _<_, _≤_}
-use mathlib.Core.Path.{_≡_, refl, sym, _∙_}
+use mathlib.Core.Path.{_≡_, refl, sym}
 use mathlib.Core.Bool.{Bool, true, false}
 use mathlib.Core.Logic.{_⊎_, inl, inr, ⊎-elim}
 use mathlib.Core.List.{List, [], _∷_, _++_, append-assoc}
 use native.Mathlib.Numerals.{add-one}
-use native.Mathlib.Nat.{le-refl}
-use native.Mathlib.Decide.{ℕ-discrete}
 use native.Mathlib.Omega.{arith}
 use borrow.Author.Tests.{leb-true, leb-false, ltb-true, ltb-false, eqb-true, eqb-false}
 use lib.Dec.{leb, ltb, eqb}
@@ -22,7 +20,6 @@ use Rattle.sheet.specs.Reading.{nodeAt, leafOf, twoOf, labelOf, oneOf, P
 use Rattle.sheet.specs.Reading.{Sheet, sheet, refused, ending, readNodes, readSheet}
 use Rattle.sheet.specs.declared.Node.{Node}
 use Rattle.sheet.specs.declared.Node.the-variants.{Leaf, Two, One, Bad}
-use Rattle.sheet.proofs.Reading.{parse-none, parse-step}
 
 -- of a choice by a test, each case under what the test then says
 by-test : {A : Type 0} {x y : A} (P : A → Type 0) (b : Bool) → (b ≡ true → P x) → (b ≡ false → P y) → P (pick b x y)
@@ -112,6 +109,16 @@ pub record FormulaAt (s : List ℕ) (m at left : ℕ) (f : Formula) (after rest 
 unfoldable pub ParseFound : List ℕ → ℕ → ℕ → ℕ → Parsed → Type 0
 ParseFound s m at left (parsed f after rest) = FormulaAt s m at left f after rest
 ParseFound s m at left (wrong r) = FaultBy (at + 2 * left) r
+
+pub nodes-positive : (f : Formula) → 1 ≤ nodes f
+unfolding nodes
+nodes-positive variable = omega arith
+nodes-positive top = omega arith
+nodes-positive bottom = omega arith
+nodes-positive (and f g) = omega arith
+nodes-positive (or f g) = omega arith
+nodes-positive (diamond l f) = omega arith
+nodes-positive (box l f) = omega arith
 
 pub bytes-few : (f : Formula) → length (formulaBytes f) ≤ 2 * nodes f
 unfolding formulaBytes nodes
@@ -242,7 +249,7 @@ module _ (s : List ℕ) (m at left : ℕ) where
       two (parsed f between some) F = last F (read between some) (all between some)
       two (wrong r) F = nearer (omega arith) F
 
-pub parse-found : (fuel : ℕ) (s : List ℕ) (m at left : ℕ) → ParseFound s m at left (parse fuel s m at left)
+parse-found : (fuel : ℕ) (s : List ℕ) (m at left : ℕ) → ParseFound s m at left (parse fuel s m at left)
 unfolding parse ParseFound
 parse-found zero s m at left = record { of-sheet = refl; number-small = omega arith; place-small = omega arith }
 parse-found (suc deep) s m at left =
@@ -254,44 +261,8 @@ pub formula-found : (fuel : ℕ) (s : List ℕ) (m at left : ℕ) (f : Formula) 
 unfolding ParseFound
 formula-found fuel s m at left f after rest e = rw e at (parse-found fuel s m at left)
 
--- ---- the nodes left are bound enough for the nesting
-
--- operands are read at most twice: at the nodes left, and where the first of two ended
-operands-same : (node : Node) (left : ℕ) (read other : ℕ → ℕ → Parsed)
-    → ((at : ℕ) → read at left ≡ other at left)
-    → ((at : ℕ) (f : Formula) (between some : ℕ) → read at left ≡ parsed f between some → read between some ≡ other between some)
-    → operands node left read ≡ operands node left other
-operands-same (Bad r) left read other first second = refl
-operands-same (Leaf node at) left read other first second = refl
-operands-same (One node byte at) left read other first second = rw (first at)
-operands-same (Two node at) left read other first second = rw (← first at) (go (read at left) refl)
-  where
-    go : (p : Parsed) → read at left ≡ p
-        → onParsed p (λ f between some. onParsed (read between some) (λ g after rest. parsed (twoOf node f g) after rest))
-        ≡ onParsed p (λ f between some. onParsed (other between some) (λ g after rest. parsed (twoOf node f g) after rest))
-    go (parsed f between some) e = rw (second at f between some e)
-    go (wrong r) e = refl
-
-parse-enough : (fuel other : ℕ) (s : List ℕ) (m at left : ℕ) → left ≤ fuel → left ≤ other → parse fuel s m at left ≡ parse other s m at left
-parse-enough zero other s m at left h k = parse-none zero s m at left (omega arith) ∙ sym (parse-none other s m at left (omega arith))
-parse-enough (suc deep) other s m at left h k =
-    let same : suc deep - 1 ≡ deep = omega arith in
-    let down : (next some : ℕ) → some ≤ left - 1 → parse (suc deep - 1) s m next some ≡ parse (other - 1) s m next some =
-    λ next some l. rw same (parse-enough deep (other - 1) s m next some (omega arith) (omega arith)) in
-    elim (ℕ-discrete left 0) [
-      | yes e ↦ parse-none (suc deep) s m at left e ∙ sym (parse-none other s m at left e)
-      | no ne ↦ parse-step (suc deep) s m at left ne h ∙ operands-same (nodeAt s m at) (left - 1) _ _
-          (λ next. down next (left - 1) (omega arith))
-          (λ next f between some e. down between some (omega (arith, formula-found (suc deep - 1) s m next (left - 1) f between some e .counted)))
-          ∙ sym (parse-step other s m at left ne k)
-    ]
-
--- a formula is its first node and the formulas after it, each bounded by its own nodes
-pub parse-node : (s : List ℕ) (m at left : ℕ) → (left ≡ 0 → ⊥)
-    → parse left s m at left ≡ operands (nodeAt s m at) (left - 1) (λ after rest. parse rest s m after rest)
-parse-node s m at left ne = parse-step left s m at left ne (le-refl left) ∙ operands-same (nodeAt s m at) (left - 1) _ _
-    (λ next. refl)
-    (λ next f between some e. parse-enough (left - 1) some s m between some (omega (arith, formula-found (left - 1) s m next (left - 1) f between some e .counted)) (le-refl some))
+pub formula-fewer : (fuel : ℕ) (s : List ℕ) (m at left : ℕ) (f : Formula) (after rest : ℕ) → parse fuel s m at left ≡ parsed f after rest → rest < left
+formula-fewer fuel s m at left f after rest e = omega (arith, formula-found fuel s m at left f after rest e .counted, nodes-positive f)
 
 -- ---- the whole sheet
 

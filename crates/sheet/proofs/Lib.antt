@@ -1,6 +1,7 @@
 pub mod Accepted
 pub mod Found
 pub mod Meaning
+pub mod Parsing
 pub mod Reading
 pub mod Solution
 pub mod Written

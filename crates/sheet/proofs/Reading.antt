@@ -1,41 +1,28 @@
 -- The reading of a sheet a step at a time, in the code's terms.
-use Prim.Native.Nat.{ℕ, zero, suc, _-_, _≤_}
+use Prim.Native.Nat.{ℕ, _-_, _<_}
 use mathlib.Core.Path.{_≡_, refl, ap, _∙_}
 use mathlib.Core.Bool.{Bool, true, false}
 use mathlib.Core.List.{List}
 use native.Mathlib.Omega.{arith}
-use borrow.Author.Tests.{eq-eqb, ne-eqb}
 use lib.Dec.{ltb}
 use lib.ListN.{length}
 use Rattle.settle.specs.Test.{pick}
 use Rattle.refusal.specs.Refusal.{sheetRefusal}
 use Rattle.sheet.specs.Formula.{Formula}
 use Rattle.sheet.specs.Reading.{nodeAt, Parsed, parsed, wrong, onParsed, operands, parse}
-use Rattle.sheet.specs.Reading.{Sheet, sheet, refused, ending, formulaRead, sheetRead, Fewer}
+use Rattle.sheet.specs.Reading.{Sheet, sheet, refused, ending, formulaRead, sheetRead}
 use Rattle.sheet.specs.declared.Node.{Node}
 use Rattle.sheet.specs.declared.Node.the-variants.{Leaf, Two, One, Bad}
 use Rattle.sheet.specs.declared.FormulaRead.{FormulaRead}
 use Rattle.sheet.specs.declared.FormulaRead.the-variants as Told
 use Rattle.sheet.specs.declared.SheetRead.{SheetRead}
 use Rattle.sheet.specs.declared.SheetRead.the-variants as Read
+use Rattle.sheet.proofs.Found.{formula-fewer}
+use Rattle.sheet.proofs.Parsing.{parse-node}
 
 -- ---- a formula
 
-pub parse-none : (fuel : ℕ) (s : List ℕ) (m at left : ℕ) → left ≡ 0 → parse fuel s m at left ≡ wrong (sheetRefusal 13 at)
-unfolding parse
-parse-none zero s m at left e = refl
-parse-none (suc deep) s m at left e = rw (eq-eqb _ _ e)
-
--- as many as `left` are enough for the nesting
-pub parse-step : (fuel : ℕ) (s : List ℕ) (m at left : ℕ) → (left ≡ 0 → ⊥) → left ≤ fuel
-    → parse fuel s m at left ≡ operands (nodeAt s m at) (left - 1) (λ after rest. parse (fuel - 1) s m after rest)
-unfolding parse
-parse-step zero s m at left ne h = absurd (ne (omega arith))
-parse-step (suc deep) s m at left ne h =
-    let e : suc deep - 1 ≡ deep = omega arith in
-    rw (ne-eqb _ _ ne, e)
-
--- the same in what the reader says: the places and the nodes left, without the formulas
+-- what the reader says: the places and the nodes left, without the formulas
 abbrev pub onRead : FormulaRead → (ℕ → ℕ → FormulaRead) → FormulaRead
 onRead (Told.Formula at left) next = next at left
 onRead (Told.Wrong r) next = Told.Wrong r
@@ -63,14 +50,17 @@ operands-read (Leaf node at) left read = refl
 operands-read (One node byte at) left read = one-read (read at left) _
 operands-read (Two node at) left read = two-read (read at left) read _
 
-pub read-step : (fuel : ℕ) (s : List ℕ) (m at left : ℕ) → (left ≡ 0 → ⊥) → left ≤ fuel
-    → formulaRead (parse fuel s m at left)
-    ≡ operandsRead (nodeAt s m at) (left - 1) (λ after rest. formulaRead (parse (fuel - 1) s m after rest))
-read-step fuel s m at left ne h = ap formulaRead (parse-step fuel s m at left ne h) ∙ operands-read (nodeAt s m at) (left - 1) _
+pub read-step : (s : List ℕ) (m at left : ℕ) → (left ≡ 0 → ⊥)
+    → formulaRead (parse left s m at left) ≡ operandsRead (nodeAt s m at) (left - 1) (λ after rest. formulaRead (parse rest s m after rest))
+read-step s m at left ne = ap formulaRead (parse-node s m at left ne) ∙ operands-read (nodeAt s m at) (left - 1) _
 
-pub fewer-more : (a b : ℕ) (r : FormulaRead) → a ≤ b → Fewer a r → Fewer b r
-fewer-more a b (Told.Formula at rest) h f = omega arith
-fewer-more a b (Told.Wrong r) h f = tt
+-- a formula that was read has at least one node
+pub read-fewer : (s : List ℕ) (m at left after rest : ℕ) → formulaRead (parse left s m at left) ≡ Told.Formula after rest → rest < left
+read-fewer s m at left after rest told = go (parse left s m at left) refl told
+  where
+    go : (p : Parsed) → parse left s m at left ≡ p → formulaRead p ≡ Told.Formula after rest → rest < left
+    go (parsed f at′ left′) e h = let z : left′ ≡ rest = cc in omega (arith, formula-fewer left s m at left f at′ left′ e)
+    go (wrong r) e h = let z : _≡_ {A = ℕ} 0 1 = cc in absurd (omega arith)
 
 -- ---- the whole sheet
 

@@ -16,7 +16,7 @@ use Rattle.sheet.specs.Reading.{nodeAt, leafOf, twoOf, labelOf, oneOf, p
 use Rattle.sheet.specs.declared.Node.{Node}
 use Rattle.sheet.specs.declared.Node.the-variants.{Leaf, Two, One}
 use Rattle.sheet.proofs.Found.{byte-then}
-use Rattle.sheet.proofs.Reading.{parse-step}
+use Rattle.sheet.proofs.Parsing.{parse-node}
 
 -- ---- a node
 
@@ -28,7 +28,7 @@ pub two-at : (s : List ℕ) (m at node : ℕ) → at < length s → getD s at 0 
 unfolding nodeAt
 two-at s m at node h e k l = rw (e, lt-leb _ _ h, le-ltb _ _ k, lt-ltb _ _ l)
 
-pub one-at : (s : List ℕ) (m at node byte : ℕ) → at + 1 < length s → getD s at 0 ≡ node → 5 ≤ node → node ≤ 6
+one-at : (s : List ℕ) (m at node byte : ℕ) → at + 1 < length s → getD s at 0 ≡ node → 5 ≤ node → node ≤ 6
     → getD s (at + 1) 0 ≡ byte → (byte < m) ⊎ (byte ≡ 255) → nodeAt s m at ≡ One node byte (at + 2)
 unfolding nodeAt
 one-at s m at node byte h e k l d b =
@@ -47,7 +47,7 @@ one-at s m at node byte h e k l d b =
 -- ---- a formula
 
 -- the first byte of what stands at a place
-pub first-byte : (s : List ℕ) (at : ℕ) {x : ℕ} {xs : List ℕ} → drop at s ≡ x ∷ xs → (at < length s) × (getD s at 0 ≡ x) × (drop (at + 1) s ≡ xs)
+first-byte : (s : List ℕ) (at : ℕ) {x : ℕ} {xs : List ℕ} → drop at s ≡ x ∷ xs → (at < length s) × (getD s at 0 ≡ x) × (drop (at + 1) s ≡ xs)
 first-byte s at {x} {xs} e =
     let here : at < length s = omega (arith, length-drop at s, ap length e) in
     let both : getD s at 0 ∷ drop (at + 1) s ≡ x ∷ xs = sym (byte-then s at here) ∙ e in
@@ -55,42 +55,42 @@ first-byte s at {x} {xs} e =
 
 -- wherever its bytes stand, it is read there, with the place after it and the nodes left
 abbrev pub ReadBack : List ℕ → ℕ → Formula → Type 0
-ReadBack s m f = (at left fuel : ℕ) (rest : List ℕ) → nodes f ≤ left → left ≤ fuel → drop at s ≡ formulaBytes f ++ rest
-    → parse fuel s m at left ≡ parsed f (at + length (formulaBytes f)) (left - nodes f)
+ReadBack s m f = (at left : ℕ) (rest : List ℕ) → nodes f ≤ left → drop at s ≡ formulaBytes f ++ rest
+    → parse left s m at left ≡ parsed f (at + length (formulaBytes f)) (left - nodes f)
 
 same-parsed : {f g : Formula} {a b c d : ℕ} → f ≡ g → a ≡ b → c ≡ d → parsed f a c ≡ parsed g b d
 same-parsed e h k = cc
 
 module _ (s : List ℕ) (m : ℕ) where
   leaf-back : (node : ℕ) (f : Formula) → node < 3 → leafOf node ≡ f → nodes f ≡ 1 → formulaBytes f ≡ node ∷ [] → ReadBack s m f
-  leaf-back node f h e n b at left fuel rest k l d =
+  leaf-back node f h e n b at left rest k d =
       let t = first-byte s at (rw b at d) in
-      rw (parse-step fuel s m at left (λ z. omega arith) l, leaf-at s m at node (t .0) (t .1) h) (same-parsed e (rw b) (omega arith))
+      rw (parse-node s m at left (λ z. omega arith), leaf-at s m at node (t .0) (t .1) h) (same-parsed e (rw b) (omega arith))
 
   two-back : (node : ℕ) (f g e : Formula) → 3 ≤ node → node < 5 → twoOf node f g ≡ e → nodes e ≡ suc (nodes f + nodes g)
       → formulaBytes e ≡ node ∷ (formulaBytes f ++ formulaBytes g) → ReadBack s m f → ReadBack s m g → ReadBack s m e
-  two-back node f g e h₁ h₂ q n b F G at left fuel rest k l d =
+  two-back node f g e h₁ h₂ q n b F G at left rest k d =
       let t = first-byte s at (rw b at d) in
       let u : drop (at + 1) s ≡ formulaBytes f ++ (formulaBytes g ++ rest) = rw append-assoc at (t .2) in
       let v : drop (at + 1 + length (formulaBytes f)) s ≡ formulaBytes g ++ rest =
       sym (drop-drop (length (formulaBytes f)) (at + 1) s) ∙ ap (drop (length (formulaBytes f))) u ∙ drop-append-seam (formulaBytes f) (formulaBytes g ++ rest) in
       rw (
-        parse-step fuel s m at left (λ z. omega arith) l,
+        parse-node s m at left (λ z. omega arith),
         two-at s m at node (t .0) (t .1) h₁ h₂,
-        F (at + 1) (left - 1) (fuel - 1) _ (omega arith) (omega arith) u,
-        G (at + 1 + length (formulaBytes f)) (left - 1 - nodes f) (fuel - 1) rest (omega arith) (omega arith) v,
+        F (at + 1) (left - 1) _ (omega arith) u,
+        G (at + 1 + length (formulaBytes f)) (left - 1 - nodes f) rest (omega arith) v,
       ) (same-parsed q (rw b (omega (arith, length-append (formulaBytes f) (formulaBytes g)))) (omega arith))
 
   one-back : (node byte : ℕ) (f e : Formula) → 5 ≤ node → node ≤ 6 → (byte < m) ⊎ (byte ≡ 255) → oneOf node byte f ≡ e
       → nodes e ≡ suc (nodes f) → formulaBytes e ≡ node ∷ byte ∷ formulaBytes f → ReadBack s m f → ReadBack s m e
-  one-back node byte f e h₁ h₂ h₃ q n b F at left fuel rest k l d =
+  one-back node byte f e h₁ h₂ h₃ q n b F at left rest k d =
       let t = first-byte s at (rw b at d) in
       let u = first-byte s (at + 1) (t .2) in
       let two : at + 1 + 1 ≡ at + 2 = omega arith in
       rw (
-        parse-step fuel s m at left (λ z. omega arith) l,
+        parse-node s m at left (λ z. omega arith),
         one-at s m at node byte (u .0) (t .1) h₁ h₂ (u .1) h₃,
-        F (at + 2) (left - 1) (fuel - 1) _ (omega arith) (omega arith) (rw two at (u .2)),
+        F (at + 2) (left - 1) _ (omega arith) (rw two at (u .2)),
       ) (same-parsed q (rw b (omega arith)) (omega arith))
 
 -- 255 is no action's index

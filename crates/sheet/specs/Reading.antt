@@ -1,6 +1,6 @@
 -- Reading a property sheet in document 01's order, each byte judged as read, 13 before 1, 8 and 11 at the same place. The number and the place
 -- of every refusal stand here; that a sheet is accepted exactly if it follows the layout is the law `accepted-exactly` of proofs/Accepted.antt.
-use Prim.Native.Nat.{ℕ, zero, suc, _+_, _-_, _<_}
+use Prim.Native.Nat.{ℕ, zero, suc, _+_, _-_}
 use mathlib.Core.List.{List}
 use lib.ListN.{length, getD}
 use lib.Dec.{ltb, leb, eqb}
@@ -108,8 +108,3 @@ formulaRead (wrong r) = Told.Wrong r
 abbrev pub sheetRead : Sheet → SheetRead
 sheetRead (sheet kind count f) = Read.Sheet (record { kind = kind; nodes = count })
 sheetRead (refused r) = Read.Refused r
-
--- a formula that was read has at least one node
-abbrev pub Fewer : ℕ → FormulaRead → Type 0
-Fewer left (Told.Formula at rest) = rest < left
-Fewer left (Told.Wrong r) = Unit {0}

@@ -1,7 +1,6 @@
 use refusal::Refusal;
 ghost use mathlib.Core.Path.{_≡_};
-ghost use Prim.Native.Nat.{ℕ, _≤_};
-ghost use Rattle.sheet.specs.Reading.{nodeAt, parse, formulaRead, Fewer, readNodes, readSheet, sheetRead};
+ghost use Rattle.sheet.specs.Reading.{nodeAt, parse, formulaRead, readNodes, readSheet, sheetRead};
 
 // A node at a place, with its action byte where it has one and the place after it.
 pub enum Node {
@@ -60,8 +59,7 @@ pub fn node_at(bytes: &[u8], m: usize, at: usize) -> Node
 
 // The formula at a place, of at most left nodes. Nodes used up are told before the next byte is looked at.
 pub fn read_formula(bytes: &[u8], m: usize, at: usize, left: usize) -> FormulaRead
-    ensures { λ r. ⌜ ((fuel : ℕ) → left ≤ fuel → r ≡ formulaRead (parse fuel (now (bytes .entry)) m at left)) ⌝ }
-    ensures { λ r. ⌜ Fewer left r ⌝ }
+    ensures { λ r. ⌜ r ≡ formulaRead (parse left (now (bytes .entry)) m at left) ⌝ }
 {
     if left == 0 {
         return FormulaRead::Wrong(refusal::of_sheet(13, at));

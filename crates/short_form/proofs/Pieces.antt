@@ -21,7 +21,7 @@ module _ {A : Type 0} (P : A → Type 0) where
   in-each false false true a b c d = c
   in-each false false false a b c d = d
 
-pub form-bytes : (name : ℕ) (f : Formula) → formulaBytes (shortForm name f) ≡ operatorOf name ∷ (formulaBytes f ++ operandOf name)
+form-bytes : (name : ℕ) (f : Formula) → formulaBytes (shortForm name f) ≡ operatorOf name ∷ (formulaBytes f ++ operandOf name)
 unfolding formulaBytes labelByte
 form-bytes name f = go (eqb name 0) (eqb name 1) (eqb name 2)
   where

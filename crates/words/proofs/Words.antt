@@ -68,7 +68,7 @@ word-none zero = refl
 word-none (suc n) = rw (word-none n) (omega arith)
 
 -- the word of one state
-pub pow-word : (n s : ℕ) → s < n → 2 ^ s ≡ wordOf n (λ x. eqb s x)
+pow-word : (n s : ℕ) → s < n → 2 ^ s ≡ wordOf n (λ x. eqb s x)
 unfolding wordOf
 pow-word zero s h = absurd (omega arith)
 pow-word (suc n) s h = go (pow-word n s) (decLt s n)
@@ -107,7 +107,7 @@ below-top n s b r h l =
     sym (mod-mod-pow (b * 2 ^ n + r) (n - (1 + s)) (1 + s)) ∙ rw (e, low b n l) in
     sym (field (b * 2 ^ n + r) 1 s) ∙ ap (λ (x : ℕ). x / 2 ^ s) m ∙ field r 1 s
 
-pub word-bit : (n s : ℕ) (P : ℕ → Bool) → s < n → wordOf n P / 2 ^ s % 2 ≡ bit (P s)
+word-bit : (n s : ℕ) (P : ℕ → Bool) → s < n → wordOf n P / 2 ^ s % 2 ≡ bit (P s)
 unfolding wordOf
 word-bit zero s P h = absurd (omega arith)
 word-bit (suc n) s P h = go (word-bit n s P) (decLt s n)

@@ -1,9 +1,11 @@
 use Prim.Native.Nat.{ℕ, _-_, _<_}
+use mathlib.Core.Path.{sym, _∙_}
 use native.Mathlib.Omega.{arith}
 use borrow.Author.Needs.{needs}
 use borrow.Fn.Kinds.{In}
 use borrow.Fn.PlainCycle.{Measures, is, falls, and}
-use Rattle.sheet.proofs.Reading.{parse-none, read-step, fewer-more}
+use Rattle.sheet.proofs.Parsing.{parse-none}
+use Rattle.sheet.proofs.Reading.{read-step, read-fewer}
 use Rattle.sheet.proofs.read_formula.Reads as read-formula
 use Rattle.sheet.proofs.read_formula.Kinds as read-formula-kinds
 use Rattle.sheet.proofs.+read_formula.Lts-read_formula as read-formula-lts
@@ -40,7 +42,7 @@ pub +read-formula-spec : {M : Type 1} → statement M
     (read-formula-at t)
     read-formula.Post
     (λ c κs. search needs)
-    (λ c. (λ fuel h. rw (parse-none _ _ _ _ _ (c .before .if1 .taken), c .of-sheet .ensures), tt))
+    (λ c. rw (parse-none _ _ _ _ _ (c .before .if1 .taken), c .of-sheet .ensures))
     (λ c κs. search needs)
     (λ c. search needs)
     (λ c. search needs)
@@ -54,38 +56,23 @@ pub +read-formula-spec : {M : Type 1} → statement M
     (λ c. search needs)
     (λ c. search needs)
     (λ c κs.
-    let f : c .before .after .given .0 .1 .0 < c .before .before .before .before .before .before .before .before .before .before .args .left - 1 = rw (c .before .after .given .1) at (c .before .before .before .read-formula2 .ensures .1) in
+    let a = c .before .before .before .before .before .before .before .before .before .before .args in
+    let fewer : c .before .after .given .0 .1 .0 < a .left - 1 = read-fewer (a .bytes .now) (a .m) _ (a .left - 1) _ _ (sym (c .before .before .before .read-formula2 .ensures) ∙ c .before .after .given .1) in
     (omega (arith, c .before .before .before .before .before .before .before .before .before .before .pre .0), tt))
-    (λ c. (
-      λ fuel h. rw (read-step _ _ _ _ _ (c .before .before .before .before .if1 .left) h, ← c .before .before .before .node-at .ensures, c .before .r .given .1),
-      tt,
+    (λ c. rw (read-step _ _ _ _ (c .before .before .before .before .if1 .left), ← c .before .before .before .node-at .ensures, c .before .r .given .1))
+    (λ c. rw (read-step _ _ _ _ (c .before .before .before .before .if1 .left), ← c .before .before .before .node-at .ensures, c .before .next .given .1))
+    (λ c. rw (read-step _ _ _ _ (c .before .before .before .before .before .if1 .left), ← c .before .before .before .before .node-at .ensures, c .before .before .next2 .given .1) (c .read-formula .ensures))
+    (λ c. rw (
+      read-step _ _ _ _ (c .before .before .before .before .before .before .before .before .if1 .left),
+      ← c .before .before .before .before .before .before .before .node-at .ensures,
+      c .before .before .before .before .before .next3 .given .1,
+      ← c .before .before .before .read-formula2 .ensures,
+      c .before .r2 .given .1,
     ))
-    (λ c. (
-      λ fuel h. rw (read-step _ _ _ _ _ (c .before .before .before .before .if1 .left) h, ← c .before .before .before .node-at .ensures, c .before .next .given .1),
-      omega arith,
-    ))
-    (λ c. (
-      λ fuel h. rw (read-step _ _ _ _ _ (c .before .before .before .before .before .if1 .left) h, ← c .before .before .before .before .node-at .ensures, c .before .before .next2 .given .1) (c .read-formula .ensures .0 (fuel - 1) (omega arith)),
-      fewer-more (c .before .before .before .before .before .before .before .args .left - 1) (c .before .before .before .before .before .before .before .args .left) (c .read-formula .result) (omega arith) (c .read-formula .ensures .1),
-    ))
-    (λ c. (
-      λ fuel h. rw (
-        read-step _ _ _ _ _ (c .before .before .before .before .before .before .before .before .if1 .left) h,
-        ← c .before .before .before .before .before .before .before .node-at .ensures,
-        c .before .before .before .before .before .next3 .given .1,
-        ← c .before .before .before .read-formula2 .ensures .0 (fuel - 1) (omega arith),
-        c .before .r2 .given .1,
-      ),
-      tt,
-    ))
-    (λ c.
-    let f : c .before .before .after .given .0 .1 .0 < c .before .before .before .before .before .before .before .before .before .before .before .args .left - 1 = rw (c .before .before .after .given .1) at (c .before .before .before .before .read-formula2 .ensures .1) in (
-      λ fuel h. rw (
-        read-step _ _ _ _ _ (c .before .before .before .before .before .before .before .before .before .if1 .left) h,
-        ← c .before .before .before .before .before .before .before .before .node-at .ensures,
-        c .before .before .before .before .before .before .next3 .given .1,
-        ← c .before .before .before .before .read-formula2 .ensures .0 (fuel - 1) (omega arith),
-        c .before .before .after .given .1,
-      ) (c .read-formula3 .ensures .0 (fuel - 1) (omega arith)),
-      fewer-more (c .before .before .after .given .0 .1 .0) (c .before .before .before .before .before .before .before .before .before .before .before .args .left) (c .read-formula3 .result) (omega arith) (c .read-formula3 .ensures .1),
-    ))
+    (λ c. rw (
+      read-step _ _ _ _ (c .before .before .before .before .before .before .before .before .before .if1 .left),
+      ← c .before .before .before .before .before .before .before .before .node-at .ensures,
+      c .before .before .before .before .before .before .next3 .given .1,
+      ← c .before .before .before .before .read-formula2 .ensures,
+      c .before .before .after .given .1,
+    ) (c .read-formula3 .ensures))

@@ -1,6 +1,5 @@
 use mathlib.Core.Path.{ap}
 use native.Mathlib.Omega.{arith}
-use native.Mathlib.Nat.{le-refl}
 use borrow.Author.Tests.{le-ltb, lt-ltb, le-leb, lt-leb}
 use Rattle.sheet.specs.Reading.{readNodes}
 use Rattle.sheet.specs.declared.SheetRead.the-variants as Read
@@ -50,22 +49,22 @@ of-sheet-requires-4 c κs = search needs
 
 returns-4 : tie.Need-returns-4
 unfolding readNodes
-returns-4 c = rw (lt-leb _ _ (c .before .before .before .before .before .before .before .before .before .if1 .left), le-ltb _ _ (c .before .before .before .before .before .before .before .if2 .left), le-ltb _ _ (c .before .before .before .before .before .before .if3 .left), ending-read, ← c .before .before .before .before .before .read-formula .ensures .0 _ (le-refl _), c .before .before .before .after .given .1, lt-ltb _ _ (c .before .if4 .taken)) (ap Read.Refused (c .of-sheet4 .ensures))
+returns-4 c = rw (lt-leb _ _ (c .before .before .before .before .before .before .before .before .before .if1 .left), le-ltb _ _ (c .before .before .before .before .before .before .before .if2 .left), le-ltb _ _ (c .before .before .before .before .before .before .if3 .left), ending-read, ← c .before .before .before .before .before .read-formula .ensures, c .before .before .before .after .given .1, lt-ltb _ _ (c .before .if4 .taken)) (ap Read.Refused (c .of-sheet4 .ensures))
 
 of-sheet-requires-5 : tie.Need-of-sheet-requires-5
 of-sheet-requires-5 c κs = search needs
 
 returns-5 : tie.Need-returns-5
 unfolding readNodes
-returns-5 c = rw (lt-leb _ _ (c .before .before .before .before .before .before .before .before .before .before .if1 .left), le-ltb _ _ (c .before .before .before .before .before .before .before .before .if2 .left), le-ltb _ _ (c .before .before .before .before .before .before .before .if3 .left), ending-read, ← c .before .before .before .before .before .before .read-formula .ensures .0 _ (le-refl _), c .before .before .before .before .after .given .1, le-ltb _ _ (c .before .before .if4 .left), lt-ltb _ _ (c .before .if5 .taken)) (ap Read.Refused (c .of-sheet5 .ensures))
+returns-5 c = rw (lt-leb _ _ (c .before .before .before .before .before .before .before .before .before .before .if1 .left), le-ltb _ _ (c .before .before .before .before .before .before .before .before .if2 .left), le-ltb _ _ (c .before .before .before .before .before .before .before .if3 .left), ending-read, ← c .before .before .before .before .before .before .read-formula .ensures, c .before .before .before .before .after .given .1, le-ltb _ _ (c .before .before .if4 .left), lt-ltb _ _ (c .before .if5 .taken)) (ap Read.Refused (c .of-sheet5 .ensures))
 
 returns-6 : tie.Need-returns-6
 unfolding readNodes
-returns-6 c = rw (lt-leb _ _ (c .before .before .before .before .before .before .before .if1 .left), le-ltb _ _ (c .before .before .before .before .before .if2 .left), le-ltb _ _ (c .before .before .before .before .if3 .left), ending-read, ← c .before .before .before .read-formula .ensures .0 _ (le-refl _), c .before .r .given .1)
+returns-6 c = rw (lt-leb _ _ (c .before .before .before .before .before .before .before .if1 .left), le-ltb _ _ (c .before .before .before .before .before .if2 .left), le-ltb _ _ (c .before .before .before .before .if3 .left), ending-read, ← c .before .before .before .read-formula .ensures, c .before .r .given .1)
 
 returns-7 : tie.Need-returns-7
 unfolding readNodes
-returns-7 c = rw (lt-leb _ _ (c .before .before .before .before .before .before .before .before .before .if1 .left), le-ltb _ _ (c .before .before .before .before .before .before .before .if2 .left), le-ltb _ _ (c .before .before .before .before .before .before .if3 .left), ending-read, ← c .before .before .before .before .before .read-formula .ensures .0 _ (le-refl _), c .before .before .before .after .given .1, le-ltb _ _ (c .before .if4 .left), le-ltb _ _ (c .if5 .left))
+returns-7 c = rw (lt-leb _ _ (c .before .before .before .before .before .before .before .before .before .if1 .left), le-ltb _ _ (c .before .before .before .before .before .before .before .if2 .left), le-ltb _ _ (c .before .before .before .before .before .before .if3 .left), ending-read, ← c .before .before .before .before .before .read-formula .ensures, c .before .before .before .after .given .1, le-ltb _ _ (c .before .if4 .left), le-ltb _ _ (c .if5 .left))
 
 pub read-nodes-spec : {M : Type 1} → statement M
 read-nodes-spec =
