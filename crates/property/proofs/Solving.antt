@@ -5,7 +5,7 @@ use mathlib.Core.Bool.{Bool}
 use mathlib.Core.List.{List}
 use native.Mathlib.Omega.{arith}
 use native.Mathlib.Numerals.{add-one}
-use native.Mathlib.Decide.{decLt}
+use borrow.Author.Count.{below-more}
 use Rattle.settle.specs.Finite.{below}
 use Rattle.settle.specs.Chain.{Same, empty, full, chain, Settled, Rounds}
 use Rattle.settle.proofs.Finite.{below-e, below-i}
@@ -49,9 +49,22 @@ pub record Rounding (n : ℕ) (F : (ℕ → Bool) → ℕ → Bool) (S : ℕ →
   pub next-is : next ≡ wordOf n (chain F S (suc rounds))
   pub unsettled : (j : ℕ) → j < rounds → Settled (below n) (chain F S) j → ⊥
 
+module _ {n : ℕ} {F : (ℕ → Bool) → ℕ → Bool} {S : ℕ → Bool} {set next rounds : ℕ} (R : Rounding n F S set next rounds) where
+  -- where the next set is the same, the rounds are the least
+  pub settled-rounds : next ≡ set → Rounds (below n) (chain F S) rounds
+  settled-rounds e = (same-word n _ _ (sym (R .set-is) ∙ sym e ∙ R .next-is), R .unsettled)
+
+  -- where it is not, this one was not settled either
+  unsettled-more : (next ≡ set → ⊥) → (j : ℕ) → j < rounds + 1 → Settled (below n) (chain F S) j → ⊥
+  unsettled-more ne = below-more (λ j. Settled (below n) (chain F S) j → ⊥) rounds (R .unsettled) (λ s. ne (R .next-is ∙ sym (word-same n _ _ s) ∙ sym (R .set-is)))
+
+  -- after 4,096 of them none was
+  pub never-settled : (next ≡ set → ⊥) → rounds ≡ 4096 → (k : ℕ) → k ≤ 4096 → Settled (below n) (chain F S) k → ⊥
+  never-settled ne e k h = unsettled-more ne k (omega arith)
+
 module _ (n m : ℕ) (steps : List Step) (targets : TargetsBelow n steps) (f : Formula) (S : ℕ → Bool) where
   -- one application more
-  pub next-word : (set k : ℕ) → set ≡ wordOf n (chain (holds m steps f) S k) → wordOf n (holds m steps f (member set)) ≡ wordOf n (chain (holds m steps f) S (suc k))
+  next-word : (set k : ℕ) → set ≡ wordOf n (chain (holds m steps f) S k) → wordOf n (holds m steps f (member set)) ≡ wordOf n (chain (holds m steps f) S (suc k))
   unfolding chain
   next-word set k e = word-cong n _ _ (holds-same m n steps targets f _ _ (λ x h. ap (λ (w : ℕ). member w x) e ∙ word-member n x _ h))
 
@@ -62,21 +75,4 @@ module _ (n m : ℕ) (steps : List Step) (targets : TargetsBelow n steps) (f : F
   pub one-more : (set next after rounds : ℕ) → Rounding n (holds m steps f) S set next rounds → (next ≡ set → ⊥) → (rounds ≡ 4096 → ⊥)
       → after ≡ wordOf n (holds m steps f (member next)) → Rounding n (holds m steps f) S next after (rounds + 1)
   one-more set next after rounds R ne below-limit e =
-      rw (add-one rounds) (record { few = omega (arith, R .few); set-is = R .next-is; next-is = e ∙ next-word next (suc rounds) (R .next-is); unsettled = λ j l. go j (decLt j rounds) l })
-    where
-      go : (j : ℕ) → Dec (j < rounds) → j < suc rounds → Settled (below n) (chain (holds m steps f) S) j → ⊥
-      go j (yes h) l s = R .unsettled j h s
-      go j (no h) l s = let q : j ≡ rounds = omega arith in ne (R .next-is ∙ sym (word-same n _ _ (rw q at s)) ∙ sym (R .set-is))
-
--- where the next set is the same, the rounds are the least
-pub settled-rounds : (n : ℕ) (F : (ℕ → Bool) → ℕ → Bool) (S : ℕ → Bool) (set next rounds : ℕ) → Rounding n F S set next rounds → next ≡ set → Rounds (below n) (chain F S) rounds
-settled-rounds n F S set next rounds R e = (same-word n _ _ (sym (R .set-is) ∙ sym e ∙ R .next-is), R .unsettled)
-
--- after 4,096 of them, where it is not, none was settled
-pub never-settled : (n : ℕ) (F : (ℕ → Bool) → ℕ → Bool) (S : ℕ → Bool) (set next rounds : ℕ) → Rounding n F S set next rounds → (next ≡ set → ⊥) → rounds ≡ 4096
-    → (k : ℕ) → k ≤ 4096 → Settled (below n) (chain F S) k → ⊥
-never-settled n F S set next rounds R ne e k h s = go (decLt k rounds)
-  where
-    go : Dec (k < rounds) → ⊥
-    go (yes l) = R .unsettled k l s
-    go (no l) = let q : k ≡ rounds = omega arith in ne (R .next-is ∙ sym (word-same n _ _ (rw q at s)) ∙ sym (R .set-is))
+      record { few = omega (arith, R .few); set-is = rw (add-one rounds) (R .next-is); next-is = rw (add-one rounds) (e ∙ next-word next (suc rounds) (R .next-is)); unsettled = unsettled-more R ne }

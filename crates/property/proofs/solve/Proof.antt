@@ -35,7 +35,7 @@ of-lent-requires : tie.Need-of-lent-requires Inv-loop μ-loop
 of-lent-requires c κs = search needs
 
 returns : tie.Need-returns Inv-loop μ-loop
-returns c = (c .of-lent .ensures, never-settled _ _ _ _ _ _ (c .before .before .before .loop .inv) (c .before .before .loop-test .taken) (c .before .if1 .taken))
+returns c = (c .of-lent .ensures, never-settled (c .before .before .before .loop .inv) (c .before .before .loop-test .taken) (c .before .if1 .taken))
 
 round-requires-2 : tie.Need-round-requires-2 Inv-loop μ-loop
 round-requires-2 c κs =
@@ -62,7 +62,7 @@ returns-2 : tie.Need-returns-2 Inv-loop μ-loop
 returns-2 c = record {
   word-is = c .before .before .loop .inv .set-is;
   count-is = c .size .ensures _ _ (c .before .before .loop .inv .set-is);
-  rounds-are = settled-rounds _ _ _ _ _ _ (c .before .before .loop .inv) (c .before .loop-test .left);
+  rounds-are = settled-rounds (c .before .before .loop .inv) (c .before .loop-test .left);
 }
 
 pub solve-spec : {M : Type 1} → statement M
