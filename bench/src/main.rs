@@ -108,7 +108,7 @@ fn property(chart: &[u8], sheet: &[u8]) -> (u64, [f64; 3]) {
 const MARKS: [Matrix; 3] = [archive::marks, same_shape::marks, words::marks];
 const SIMULATION: [Matrix; 3] = [archive::simulation, same_shape::simulation, words::simulation];
 
-fn main() {
+fn beside_rust() {
     println!("Times in microseconds, the least of {SAMPLES} samples.\n");
     let (question, case) = ("question", "case");
     println!("| {question:<10} | {case:<49} | rounds |    archive | same shape |    words | archive/same | archive/words |");
@@ -140,7 +140,9 @@ fn main() {
         let (rounds, times) = property(&chart, &sheet);
         row("property", case, rounds, times);
     }
+}
 
+fn growth() {
     println!(
         "\nHow the archive's time grows, in microseconds: n states, 2 actions, t triples, drawn; a property of 200 nodes.\n"
     );
@@ -161,4 +163,9 @@ fn main() {
         }]);
         println!("| {n:>3} | {t:>5} | {:>10.2} | {:>10.2} | {:>10.2} |", marks * 1e6, simulation * 1e6, property * 1e6);
     }
+}
+
+fn main() {
+    beside_rust();
+    growth();
 }

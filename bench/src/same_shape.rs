@@ -62,42 +62,47 @@ fn round(steps: &[&[[u8; 3]]], both_ways: bool, v: u8, buffer: &mut [u8]) -> boo
     changed
 }
 
+/// The rounds that `work` takes over the steps of each state and the cells of their pairs, which are all 0.
+#[inline(always)]
+fn over_pairs(chart: &[u8], buffer: &mut [u8], work: impl FnOnce(&[&[[u8; 3]]], &mut [u8]) -> u64) -> Option<u64> {
+    let shape = read::chart(chart)?;
+    let n = shape.n;
+    let cells = buffer.get_mut(..n * n)?;
+    cells.fill(0);
+    let steps = sources(triples(chart, shape), n);
+    Some(work(&steps[..n], cells))
+}
+
 /// The rounds.
 #[inline(never)]
 pub fn marks(chart: &[u8], buffer: &mut [u8]) -> Option<u64> {
-    let shape = read::chart(chart)?;
-    let n = shape.n;
-    let buffer = buffer.get_mut(..n * n)?;
-    buffer.fill(0);
-    let steps = sources(triples(chart, shape), n);
-    let mut k = 0;
-    while round(&steps[..n], true, (k + 1) as u8, buffer) {
-        k += 1;
-    }
-    Some(k)
+    over_pairs(chart, buffer, |steps, cells| {
+        let mut k = 0;
+        while round(steps, true, (k + 1) as u8, cells) {
+            k += 1;
+        }
+        k
+    })
 }
 
 /// The rounds. While it works a cell is 0 in the relation, 1 out of it since this round, 2 for longer.
 #[inline(never)]
 pub fn simulation(chart: &[u8], buffer: &mut [u8]) -> Option<u64> {
-    let shape = read::chart(chart)?;
-    let n = shape.n;
-    let buffer = buffer.get_mut(..n * n)?;
-    buffer.fill(0);
-    let steps = sources(triples(chart, shape), n);
-    let mut k = 0;
-    while round(&steps[..n], false, 1, buffer) {
-        for cell in buffer.iter_mut() {
-            if *cell == 1 {
-                *cell = 2;
+    over_pairs(chart, buffer, |steps, cells| {
+        let mut k = 0;
+        while round(steps, false, 1, cells) {
+            for cell in cells.iter_mut() {
+                if *cell == 1 {
+                    *cell = 2;
+                }
             }
+            k += 1;
         }
-        k += 1;
-    }
-    for cell in buffer.iter_mut() {
-        *cell = (*cell == 0) as u8;
-    }
-    Some(k)
+        for cell in cells.iter_mut() {
+            *cell = (*cell == 0) as u8;
+        }
+        k
+    })
 }
 
 /// One pass over the triples.

@@ -48,6 +48,15 @@ impl Steps {
     fn reaching(&self, a: usize, set: u64) -> u64 {
         members(set).fold(0, |so_far, s| so_far | self.from(a, s))
     }
+
+    /// The states, of those that are able to an a-step, with none into `near` any more, from which the states of `fallen` have gone.
+    fn lost(&self, a: usize, able: u64, near: u64, fallen: u64) -> u64 {
+        if near.count_ones() <= fallen.count_ones() {
+            return able & !self.reaching(a, near);
+        }
+        let candidates = members(self.reaching(a, fallen));
+        candidates.filter(|&q| self.to(a, q) & near == 0).fold(0, |so_far, q| so_far | 1 << q)
+    }
 }
 
 /// Rounds of splitting: two states stay together where they have the same steps into every block. Only the blocks that the last
@@ -93,6 +102,29 @@ pub fn marks(chart: &[u8], buffer: &mut [u8]) -> Option<u64> {
     }
 }
 
+/// One round of simulation: `next[p]` becomes what falls from `near[p]`, given what fell in the last round, from the states of
+/// `changed`. Answers the states from which something falls.
+fn fall(steps: &Steps, able: &[u64], near: &[u64; 64], fallen: &[u64; 64], changed: u64, next: &mut [u64; 64]) -> u64 {
+    let mut next_changed = 0;
+    for x in members(changed) {
+        for (a, &able) in able.iter().enumerate() {
+            let sources = steps.from(a, x);
+            if sources == 0 {
+                continue;
+            }
+            let lost = steps.lost(a, able, near[x], fallen[x]);
+            for p in members(sources) {
+                let falls = lost & near[p];
+                if falls != 0 {
+                    next[p] |= falls;
+                    next_changed |= 1 << p;
+                }
+            }
+        }
+    }
+    next_changed
+}
+
 /// `near[p]` is the states that simulate p. A state q that had an a-step to one that fell from `near[x]` in the last round falls
 /// from `near[p]`, for each p with an a-step to x, where it has no other a-step into `near[x]`.
 #[inline(never)]
@@ -115,37 +147,11 @@ pub fn simulation(chart: &[u8], buffer: &mut [u8]) -> Option<u64> {
     while changed != 0 {
         rounds += 1;
         let mut next = [0; 64];
-        let mut next_changed = 0;
-        for x in members(changed) {
-            for (a, &able) in able.iter().enumerate() {
-                let sources = steps.from(a, x);
-                if sources == 0 {
-                    continue;
-                }
-                let mut lost = 0;
-                if near[x].count_ones() <= fallen[x].count_ones() {
-                    lost = able & !steps.reaching(a, near[x]);
-                } else {
-                    for q in members(steps.reaching(a, fallen[x])) {
-                        if steps.to(a, q) & near[x] == 0 {
-                            lost |= 1 << q;
-                        }
-                    }
-                }
-                for p in members(sources) {
-                    let falls = lost & near[p];
-                    if falls != 0 {
-                        next[p] |= falls;
-                        next_changed |= 1 << p;
-                    }
-                }
-            }
-        }
-        for p in members(next_changed) {
+        changed = fall(&steps, &able, &near, &fallen, changed, &mut next);
+        for p in members(changed) {
             near[p] &= !next[p];
         }
         fallen = next;
-        changed = next_changed;
     }
     for p in 0..n {
         for q in 0..n {
@@ -179,29 +185,7 @@ pub fn property(chart: &[u8], sheet: &[u8]) -> Option<(u64, u64, u64)> {
     let mut rounds = 0;
     let mut stack = [0; 200];
     loop {
-        let mut top = 0;
-        for &part in &parts {
-            match part {
-                Part::Word(w) => {
-                    stack[top] = w;
-                    top += 1;
-                }
-                Part::Variable => {
-                    stack[top] = set;
-                    top += 1;
-                }
-                Part::And => {
-                    top -= 1;
-                    stack[top - 1] &= stack[top];
-                }
-                Part::Or => {
-                    top -= 1;
-                    stack[top - 1] |= stack[top];
-                }
-                Part::Diamond(a) => stack[top - 1] = steps.reaching(a, stack[top - 1]),
-                Part::Box(a) => stack[top - 1] = all & !steps.reaching(a, all & !stack[top - 1]),
-            }
-        }
+        apply(&parts, &steps, all, set, &mut stack);
         if stack[0] == set {
             return Some((set, set.count_ones() as u64, rounds));
         }
@@ -210,20 +194,39 @@ pub fn property(chart: &[u8], sheet: &[u8]) -> Option<(u64, u64, u64)> {
     }
 }
 
+/// Leaves the word of the formula at the bottom of the stack.
+fn apply(parts: &[Part], steps: &Steps, all: u64, set: u64, stack: &mut [u64; 200]) {
+    let mut top = 0;
+    for &part in parts {
+        match part {
+            Part::Word(w) => {
+                stack[top] = w;
+                top += 1;
+            }
+            Part::Variable => {
+                stack[top] = set;
+                top += 1;
+            }
+            Part::And => {
+                top -= 1;
+                stack[top - 1] &= stack[top];
+            }
+            Part::Or => {
+                top -= 1;
+                stack[top - 1] |= stack[top];
+            }
+            Part::Diamond(a) => stack[top - 1] = steps.reaching(a, stack[top - 1]),
+            Part::Box(a) => stack[top - 1] = all & !steps.reaching(a, all & !stack[top - 1]),
+        }
+    }
+}
+
 /// Appends the formula at a place, operands first, and answers the place after it.
 fn arrange(sheet: &[u8], at: usize, steps: &Steps, all: u64, out: &mut Vec<Part>) -> usize {
     let action = |byte: u8| if byte == 255 { steps.m } else { byte as usize };
     match sheet[at] {
-        0 => {
-            out.push(Part::Variable);
-            at + 1
-        }
-        1 => {
-            out.push(Part::Word(all));
-            at + 1
-        }
-        2 => {
-            out.push(Part::Word(0));
+        node @ 0..=2 => {
+            out.push([Part::Variable, Part::Word(all), Part::Word(0)][node as usize]);
             at + 1
         }
         node @ (3 | 4) => {
