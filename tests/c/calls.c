@@ -6,10 +6,11 @@
 #include <string.h>
 
 static int wrong;
+static const char *asked;
 
 static void expect_number(int line, const char *what, uint64_t is, uint64_t expected) {
     if (is == expected) return;
-    printf("calls.c:%d: %s is %" PRIu64 ", expected %" PRIu64 "\n", line, what, is, expected);
+    printf("calls.c:%d, %s: %s is %" PRIu64 ", expected %" PRIu64 "\n", line, asked, what, is, expected);
     wrong = 1;
 }
 
@@ -49,55 +50,56 @@ static void expect_kept(int line) {
 }
 #define EXPECT_KEPT() expect_kept(__LINE__)
 
-static void marks(void) {
-    const uint8_t expected[9] = {0, 2, 1, 2, 0, 1, 1, 1, 0};
+typedef uint64_t matrix_call(const uint8_t *, size_t, uint8_t *, size_t, uint64_t *, uint64_t *);
+
+/* marks and simulation: the matrix of L and its rounds, and what both refuse alike */
+static void matrix(matrix_call *call, const uint8_t of_l[9], uint64_t rounds) {
     fill();
-    EXPECT(rebatelion_marks(l, sizeof l, buffer, LENT, &x, &y), 0);
+    EXPECT(call(l, sizeof l, buffer, LENT, &x, &y), 0);
     EXPECT(x, 3);
-    EXPECT(y, 2);
-    EXPECT_BYTES(buffer, expected, 9);
+    EXPECT(y, rounds);
+    EXPECT(z, KEPT);
+    EXPECT_BYTES(buffer, of_l, 9);
     EXPECT_BYTES(buffer + 9, before + 9, LENT - 9);
+
     fill();
+    EXPECT_REFUSED(call(l, sizeof l, buffer, 8, &x, &y), 2, 14, 0);
+    EXPECT_KEPT();
+    EXPECT_REFUSED(call(e, sizeof e, buffer, 35, &x, &y), 2, 14, 0);
+    EXPECT_KEPT();
+    EXPECT_REFUSED(call(e, sizeof e, NULL, 0, &x, &y), 2, 14, 0);
+    EXPECT_KEPT();
+    EXPECT_REFUSED(call(NULL, 0, buffer, LENT, &x, &y), 0, 1, 0);
+    EXPECT_KEPT();
+    EXPECT_REFUSED(call(NULL, 0, NULL, 0, &x, &y), 0, 1, 0);
+    EXPECT_KEPT();
+    EXPECT_REFUSED(call(e, sizeof e - 1, buffer, LENT, &x, &y), 0, 1, 33);
+    EXPECT_KEPT();
+    EXPECT_REFUSED(call(e + 1, sizeof e - 1, buffer, LENT, &x, &y), 0, 5, 6);
+    EXPECT_KEPT();
+}
+
+static void marks(void) {
+    const uint8_t of_l[9] = {0, 2, 1, 2, 0, 1, 1, 1, 0};
+    asked = "marks";
+    matrix(rebatelion_marks, of_l, 2);
     EXPECT(rebatelion_marks(e, sizeof e, buffer, 36, &x, &y), 0);
     EXPECT(x, 6);
     EXPECT(y, 2);
     EXPECT(buffer[1], 2);
     EXPECT(buffer[6], 2);
     EXPECT(buffer[2], 1);
-
-    fill();
-    EXPECT_REFUSED(rebatelion_marks(e, sizeof e, buffer, 35, &x, &y), 2, 14, 0);
-    EXPECT_KEPT();
-    EXPECT_REFUSED(rebatelion_marks(e, sizeof e, NULL, 0, &x, &y), 2, 14, 0);
-    EXPECT_KEPT();
-    EXPECT_REFUSED(rebatelion_marks(NULL, 0, buffer, LENT, &x, &y), 0, 1, 0);
-    EXPECT_KEPT();
-    EXPECT_REFUSED(rebatelion_marks(NULL, 0, NULL, 0, &x, &y), 0, 1, 0);
-    EXPECT_KEPT();
-    EXPECT_REFUSED(rebatelion_marks(e, sizeof e - 1, buffer, LENT, &x, &y), 0, 1, 33);
-    EXPECT_KEPT();
 }
 
 static void simulation(void) {
-    const uint8_t expected[9] = {1, 1, 0, 1, 1, 0, 1, 1, 1};
-    fill();
-    EXPECT(rebatelion_simulation(l, sizeof l, buffer, LENT, &x, &y), 0);
-    EXPECT(x, 3);
-    EXPECT(y, 1);
-    EXPECT_BYTES(buffer, expected, 9);
-    EXPECT_BYTES(buffer + 9, before + 9, LENT - 9);
-
-    fill();
-    EXPECT_REFUSED(rebatelion_simulation(l, sizeof l, buffer, 8, &x, &y), 2, 14, 0);
-    EXPECT_KEPT();
-    EXPECT_REFUSED(rebatelion_simulation(NULL, 0, NULL, 0, &x, &y), 0, 1, 0);
-    EXPECT_KEPT();
-    EXPECT_REFUSED(rebatelion_simulation(e + 1, sizeof e - 1, buffer, LENT, &x, &y), 0, 5, 6);
-    EXPECT_KEPT();
+    const uint8_t of_l[9] = {1, 1, 0, 1, 1, 0, 1, 1, 1};
+    asked = "simulation";
+    matrix(rebatelion_simulation, of_l, 1);
 }
 
 static void property(void) {
     const uint8_t kind[] = {1, 3}, node[] = {1, 0, 1, 7}, open[] = {1, 0, 2, 1};
+    asked = "property";
     fill();
     EXPECT(rebatelion_property(e, sizeof e, e_sheet, sizeof e_sheet, &x, &y, &z), 0);
     EXPECT(x, 61);
@@ -123,6 +125,7 @@ static void property(void) {
 static void short_form(void) {
     const uint8_t f[] = {1, 2, 1, 1}, variable[] = {1, 2, 1, 0};
     const uint8_t expected[] = {1, 1, 4, 4, 1, 5, 255, 0};
+    asked = "short form";
     fill();
     EXPECT(rebatelion_short_form(e, sizeof e, f, sizeof f, 1, buffer, LENT, &x), 0);
     EXPECT(x, sizeof expected);

@@ -4,7 +4,7 @@
 //! Where the archive could not be linked (it is for x86-64 and the checks are not), a program that has it runs beside the
 //! checks, and every call, rooms and all, goes to it through a pipe: bridge/bridge.c.
 
-#[derive(Clone, Copy, PartialEq, Eq, PartialOrd, Ord, Debug)]
+#[derive(Clone, Copy, PartialEq, Eq, PartialOrd, Ord, Hash, Debug)]
 pub enum Question {
     Marks = 0,
     Simulation = 1,
@@ -63,41 +63,24 @@ pub use linked::Archive;
 mod linked {
     use super::{Call, Question, Room};
 
+    type In = *const u8;
+    type Out = *mut u8;
+    type Number = *mut u64;
+
+    // cn, sn and bn are the lengths of chart, sheet and buffer
     extern "C" {
-        fn rebatelion_marks(
-            chart: *const u8,
-            chart_len: usize,
-            buffer: *mut u8,
-            buffer_len: usize,
-            states: *mut u64,
-            rounds: *mut u64,
-        ) -> u64;
-        fn rebatelion_simulation(
-            chart: *const u8,
-            chart_len: usize,
-            buffer: *mut u8,
-            buffer_len: usize,
-            states: *mut u64,
-            rounds: *mut u64,
-        ) -> u64;
-        fn rebatelion_property(
-            chart: *const u8,
-            chart_len: usize,
-            sheet: *const u8,
-            sheet_len: usize,
-            word: *mut u64,
-            count: *mut u64,
-            rounds: *mut u64,
-        ) -> u64;
+        fn rebatelion_marks(chart: In, cn: usize, buffer: Out, bn: usize, states: Number, rounds: Number) -> u64;
+        fn rebatelion_simulation(chart: In, cn: usize, buffer: Out, bn: usize, states: Number, rounds: Number) -> u64;
+        fn rebatelion_property(chart: In, cn: usize, sheet: In, sn: usize, word: Number, count: Number, rounds: Number) -> u64;
         fn rebatelion_short_form(
-            chart: *const u8,
-            chart_len: usize,
-            sheet: *const u8,
-            sheet_len: usize,
+            chart: In,
+            cn: usize,
+            sheet: In,
+            sn: usize,
             name: u64,
-            buffer: *mut u8,
-            buffer_len: usize,
-            written: *mut u64,
+            buffer: Out,
+            bn: usize,
+            written: Number,
         ) -> u64;
     }
 

@@ -4,7 +4,8 @@ use crate::archive::{Archive, Call, Question, Room, MARGIN};
 use crate::inputs::random::Random;
 use crate::reference::refusal::{Input, Refusal};
 use crate::reference::{nearness, property, short_form};
-use std::collections::BTreeMap;
+use std::collections::{BTreeMap, BTreeSet, HashSet};
+use std::hash::{DefaultHasher, Hash, Hasher};
 
 /// An input, and what stands in memory after it: a reader that goes past the end reads on there.
 #[derive(Clone, Copy)]
@@ -58,9 +59,13 @@ impl Told {
 #[derive(Default)]
 pub struct Tally {
     pub asked: BTreeMap<Question, u64>,
+    /// Hashes of the inputs that were asked: the same one asked again counts once.
+    pub inputs: HashSet<(Question, u64)>,
     pub answered: BTreeMap<Question, u64>,
     /// By question, number, input and what stood at the place.
     pub refused: BTreeMap<(Question, u8, Input, &'static str), u64>,
+    /// Question, number, input and the place itself.
+    pub places: BTreeSet<(Question, u8, Input, usize)>,
     pub wrong: Vec<String>,
 }
 
@@ -69,12 +74,14 @@ impl Tally {
         for (question, count) in other.asked {
             *self.asked.entry(question).or_default() += count;
         }
+        self.inputs.extend(other.inputs);
         for (question, count) in other.answered {
             *self.answered.entry(question).or_default() += count;
         }
         for (key, count) in other.refused {
             *self.refused.entry(key).or_default() += count;
         }
+        self.places.extend(other.places);
         self.wrong.extend(other.wrong);
     }
 }
@@ -112,20 +119,28 @@ impl<'a> Checker<'a> {
         self.ask(Question::ShortForm, chart.into(), sheet.into(), name, buffer)
     }
 
+    /// All four questions, with buffers of lengths near those that are needed.
+    pub fn all<'b, 'c>(&mut self, chart: impl Into<Lent<'b>>, sheet: impl Into<Lent<'c>>) -> [Told; 4] {
+        let chart = chart.into();
+        let [marks, simulation] = self.matrices(chart);
+        let [property, short_form] = self.sheets(chart, sheet);
+        [marks, simulation, property, short_form]
+    }
+
     /// Marks and simulation, each with a buffer that is just long enough, or one less, or more, or any.
-    pub fn matrices<'b>(&mut self, chart: impl Into<Lent<'b>>) {
+    pub fn matrices<'b>(&mut self, chart: impl Into<Lent<'b>>) -> [Told; 2] {
         let chart = chart.into();
         let exact = chart.bytes.first().map_or(0, |&n| (n as usize).min(64).pow(2));
-        for question in [Question::Marks, Question::Simulation] {
+        [Question::Marks, Question::Simulation].map(|question| {
             let buffer = self.length_near(exact);
-            self.ask(question, chart, [].as_slice().into(), 0, buffer);
-        }
+            self.ask(question, chart, [].as_slice().into(), 0, buffer)
+        })
     }
 
     /// A property, and a short form with some name and a buffer that is just long enough, or one less, or more, or any.
-    pub fn sheets<'b, 'c>(&mut self, chart: impl Into<Lent<'b>>, sheet: impl Into<Lent<'c>>) {
+    pub fn sheets<'b, 'c>(&mut self, chart: impl Into<Lent<'b>>, sheet: impl Into<Lent<'c>>) -> [Told; 2] {
         let (chart, sheet) = (chart.into(), sheet.into());
-        self.ask(Question::Property, chart, sheet, 0, 0);
+        let property = self.ask(Question::Property, chart, sheet, 0, 0);
         let name = match self.random.below(16) {
             0 => self.random.word(),
             1 => self.random.below(8) as u64,
@@ -133,7 +148,7 @@ impl<'a> Checker<'a> {
             _ => self.random.below(4) as u64,
         };
         let buffer = self.length_near(sheet.bytes.len() + short_form::added(name));
-        self.ask(Question::ShortForm, chart, sheet, name, buffer);
+        [property, self.ask(Question::ShortForm, chart, sheet, name, buffer)]
     }
 
     fn length_near(&mut self, exact: usize) -> usize {
@@ -151,6 +166,15 @@ impl<'a> Checker<'a> {
         if !fine && self.tally.wrong.len() < 5 {
             self.tally.wrong.push(what());
         }
+    }
+
+    pub fn expect_answered(&mut self, what: &str, told: &Told) {
+        self.expect(told.code == 0, || format!("{what}: refused {:?}", told.refusal()));
+    }
+
+    /// `refusal` is the input, the number and the place.
+    pub fn expect_refused(&mut self, what: &str, told: &Told, refusal: (u64, u64, u64)) {
+        self.expect(told.refusal() == Some(refusal), || format!("{what}: told {:?}, expected {refusal:?}", told.refusal()));
     }
 
     fn room(&mut self, lent: Lent) -> Room {
@@ -182,14 +206,25 @@ impl<'a> Checker<'a> {
         let mut told = before.clone();
         let code = self.archive.call(&mut told);
 
-        *self.tally.asked.entry(question).or_default() += 1;
-        match refused {
-            None => *self.tally.answered.entry(question).or_default() += 1,
-            Some(r) => *self.tally.refused.entry((question, r.number, r.input, r.what)).or_default() += 1,
-        }
+        self.count(&before, refused);
         let fine = code == refused.map_or(0, |r| r.packed()) && told == expected;
         self.expect(fine, || describe(&before, refused, &expected, code, &told));
         Told { code, numbers: told.numbers, buffer: told.buffer.part().to_vec() }
+    }
+
+    fn count(&mut self, call: &Call, refused: Option<Refusal>) {
+        let (tally, question) = (&mut self.tally, call.question);
+        *tally.asked.entry(question).or_default() += 1;
+        let mut hasher = DefaultHasher::new();
+        (call.chart.part(), call.sheet.part(), call.name, call.buffer.len()).hash(&mut hasher);
+        tally.inputs.insert((question, hasher.finish()));
+        match refused {
+            None => *tally.answered.entry(question).or_default() += 1,
+            Some(r) => {
+                *tally.refused.entry((question, r.number, r.input, r.what)).or_default() += 1;
+                tally.places.insert((question, r.number, r.input, r.place));
+            }
+        }
     }
 }
 

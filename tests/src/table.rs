@@ -3,119 +3,139 @@
 use crate::archive::{Question, QUESTIONS};
 use crate::compare::Tally;
 use crate::reference::refusal::Input;
+use std::collections::BTreeSet;
+use std::ops::RangeInclusive;
 
-const LEAST_ASKED: u64 = 200_000;
+const LEAST_ASKED: usize = 200_000;
 
-/// Every kind of place that a refusal of the chart can have.
-const OF_THE_CHART: &[(u8, &str)] = &[
-    (1, "state count"),
-    (1, "mode code"),
-    (1, "action count"),
-    (1, "action code"),
-    (1, "low byte of the transition count"),
-    (1, "high byte of the transition count"),
-    (1, "source"),
-    (1, "action"),
-    (1, "target"),
-    (2, "no state"),
-    (2, "too many states"),
-    (3, "action count"),
-    (4, "equal code"),
-    (4, "smaller code"),
-    (5, "transition count"),
-    (6, "source"),
-    (6, "action"),
-    (6, "target"),
-    (7, "equal triple"),
-    (7, "smaller source"),
-    (7, "smaller action"),
-    (7, "smaller target"),
-    (8, "byte left over"),
+/// A refusal's number, its first and its last place, and what can stand there.
+type Row = (u8, RangeInclusive<usize>, &'static [&'static str]);
+
+/// Of the chart. Its triples start at byte n + m + 4, which is 5 to 100, and its last byte is 3,171 at the most.
+const OF_THE_CHART: &[Row] = &[
+    (
+        1,
+        0..=3171,
+        &[
+            "state count",
+            "mode code",
+            "action count",
+            "action code",
+            "low byte of the transition count",
+            "high byte of the transition count",
+            "source",
+            "action",
+            "target",
+        ],
+    ),
+    (2, 0..=0, &["no state", "too many states"]),
+    (3, 2..=65, &["action count"]),
+    (4, 4..=97, &["equal code", "smaller code"]),
+    (5, 3..=98, &["transition count"]),
+    (6, 5..=3171, &["source", "action", "target"]),
+    (7, 9..=3169, &["equal triple", "smaller source", "smaller action", "smaller target"]),
+    (8, 5..=3172, &["byte left over"]),
 ];
 
-/// Every kind of place that a refusal of the sheet can have.
-const OF_THE_SHEET: &[(u8, &str)] = &[
-    (1, "equation count"),
-    (1, "kind"),
-    (1, "node count"),
-    (1, "node"),
-    (1, "action byte of a node"),
-    (8, "byte left over"),
-    (9, "equation count"),
-    (9, "kind"),
-    (10, "no node"),
-    (10, "too many nodes"),
-    (11, "first node"),
-    (11, "later node"),
-    (12, "action of a diamond"),
-    (12, "action of a box"),
-    (13, "complete while nodes remain"),
-    (13, "used up and operands missing"),
+/// Of the sheet. 200 nodes are 400 bytes where all are diamonds and boxes, and then an operand is missing.
+const OF_THE_SHEET: &[Row] = &[
+    (1, 0..=402, &["equation count", "kind", "node count", "node", "action byte of a node"]),
+    (8, 4..=402, &["byte left over"]),
+    (9, 0..=1, &["equation count", "kind"]),
+    (10, 2..=2, &["no node", "too many nodes"]),
+    (11, 3..=401, &["first node", "later node"]),
+    (12, 4..=402, &["action of a diamond", "action of a box"]),
+    (13, 4..=403, &["complete while nodes remain", "used up and operands missing"]),
 ];
 
 /// What a short form adds for its sheet. 15 is nowhere: no input has it.
-const OF_A_SHORT_FORM: &[(u8, &str)] = &[(10, "too many nodes in the result"), (16, "variable")];
+const OF_A_SHORT_FORM: &[Row] = &[(10, 2..=2, &["too many nodes in the result"]), (16, 3..=401, &["variable"])];
 
-/// Every refusal that a question can have, with its kinds of places.
-fn can_occur(question: Question) -> Vec<(u8, Input, &'static str)> {
-    let with =
-        |input, list: &[(u8, &'static str)]| list.iter().map(move |&(number, what)| (number, input, what)).collect::<Vec<_>>();
-    let mut all = with(Input::Chart, OF_THE_CHART);
-    match question {
-        Question::Marks | Question::Simulation => all.extend(with(Input::BufferOrName, &[(14, "buffer")])),
-        Question::Property => all.extend(with(Input::Sheet, OF_THE_SHEET)),
-        Question::ShortForm => {
-            all.extend(with(Input::Sheet, OF_THE_SHEET));
-            all.extend(with(Input::Sheet, OF_A_SHORT_FORM));
-            all.extend(with(Input::BufferOrName, &[(14, "buffer"), (17, "name")]));
-        }
-    }
-    all
+const OF_THE_BUFFER: &[Row] = &[(14, 0..=0, &["buffer"])];
+const OF_THE_NAME: &[Row] = &[(17, 0..=0, &["name"])];
+
+/// Places between the first and the last that no input has. A complete formula has an odd number of bytes; where a variable has
+/// an odd number of them before it, an operand comes after it, and at 400 that would be a node too many.
+fn left_out(number: u8, input: Input, place: usize) -> bool {
+    input == Input::Sheet && (number == 8 && place % 2 == 1 || number == 16 && place == 400)
 }
 
-/// Prints the counts, and returns what is missing.
-pub fn show(tally: &Tally) -> Vec<String> {
-    let mut missing = Vec::new();
-    let row = |title: &str, counts: [u64; 4]| {
-        let [a, b, c, d] = counts.map(|count| if count == 0 { "-".to_string() } else { count.to_string() });
-        println!("{title:<52}{a:>10}{b:>12}{c:>10}{d:>12}");
-    };
+/// Every refusal that a question can have.
+fn can_occur(question: Question) -> Vec<(Input, &'static Row)> {
+    let of_the_sheet = [(Input::Sheet, OF_THE_SHEET)];
+    let of_a_short_form =
+        [(Input::Sheet, OF_A_SHORT_FORM), (Input::BufferOrName, OF_THE_BUFFER), (Input::BufferOrName, OF_THE_NAME)];
+    let mut lists = vec![(Input::Chart, OF_THE_CHART)];
+    match question {
+        Question::Marks | Question::Simulation => lists.push((Input::BufferOrName, OF_THE_BUFFER)),
+        Question::Property => lists.extend(of_the_sheet),
+        Question::ShortForm => lists.extend(of_the_sheet.into_iter().chain(of_a_short_form)),
+    }
+    lists.into_iter().flat_map(|(input, rows)| rows.iter().map(move |row| (input, row))).collect()
+}
+
+fn row(title: &str, counts: [u64; 4]) {
+    let [a, b, c, d] = counts.map(|count| if count == 0 { "-".to_string() } else { count.to_string() });
+    println!("{title:<52}{a:>10}{b:>12}{c:>10}{d:>12}");
+}
+
+/// The sum of those refusals of each question that are wanted.
+fn refusals(tally: &Tally, wanted: impl Fn(u8, Input, &str) -> bool) -> [u64; 4] {
+    QUESTIONS.map(|question| {
+        let met = tally.refused.iter().filter(|((q, number, input, what), _)| *q == question && wanted(*number, *input, what));
+        met.map(|(_, count)| count).sum()
+    })
+}
+
+fn different_inputs(tally: &Tally, question: Question) -> usize {
+    tally.inputs.iter().filter(|(q, _)| *q == question).count()
+}
+
+/// Prints the counts.
+pub fn show(tally: &Tally) {
     println!("{:<52}{:>10}{:>12}{:>10}{:>12}", "", "marks", "simulation", "property", "short form");
     row("asked", QUESTIONS.map(|q| tally.asked.get(&q).copied().unwrap_or(0)));
+    row("different inputs", QUESTIONS.map(|q| different_inputs(tally, q) as u64));
     row("answered", QUESTIONS.map(|q| tally.answered.get(&q).copied().unwrap_or(0)));
     for number in 1..=17 {
-        row(
-            &format!("refused {number}"),
-            QUESTIONS.map(|q| {
-                tally
-                    .refused
-                    .iter()
-                    .filter(|((question, n, ..), _)| *question == q && *n == number)
-                    .map(|(_, count)| count)
-                    .sum()
-            }),
-        );
+        row(&format!("refused {number}"), refusals(tally, |n, _, _| n == number));
     }
 
-    println!("\nby kind of place");
-    let mut kinds: Vec<(u8, Input, &'static str)> = tally.refused.keys().map(|&(_, n, input, what)| (n, input, what)).collect();
+    println!("\nby what stands at the place");
+    let kinds: BTreeSet<_> = tally.refused.keys().map(|&(_, number, input, what)| (number, input, what)).collect();
+    for kind in kinds {
+        let (number, input, what) = kind;
+        let title = format!("{number:>4}  {:<14}{what}", format!("{input:?}"));
+        row(&title, refusals(tally, |n, i, w| (n, i, w) == kind));
+    }
+
+    println!("\ndifferent places");
+    let refusals: BTreeSet<_> = tally.places.iter().map(|&(_, number, input, _)| (number, input)).collect();
+    for (number, input) in refusals {
+        let counts =
+            QUESTIONS.map(|q| tally.places.range((q, number, input, 0)..=(q, number, input, usize::MAX)).count() as u64);
+        row(&format!("{number:>4}  {input:?}"), counts);
+    }
+}
+
+/// What was not met and must have been, and what was met and cannot be.
+pub fn faults(tally: &Tally) -> Vec<String> {
+    let mut faults = Vec::new();
+    let (mut kinds, mut places) = (BTreeSet::new(), BTreeSet::new());
     for question in QUESTIONS {
-        if tally.asked.get(&question).copied().unwrap_or(0) < LEAST_ASKED {
-            missing.push(format!("{LEAST_ASKED} inputs for {question:?}"));
+        if different_inputs(tally, question) < LEAST_ASKED {
+            faults.push(format!("fewer than {LEAST_ASKED} inputs ({question:?})"));
         }
-        for kind in can_occur(question) {
-            let (number, input, what) = kind;
-            if !tally.refused.contains_key(&(question, number, input, what)) {
-                missing.push(format!("refusal {number} of the {input:?} at: {what} ({question:?})"));
-            }
-            kinds.push(kind);
+        for (input, (number, range, whats)) in can_occur(question) {
+            kinds.extend(whats.iter().map(|&what| (question, *number, input, what)));
+            let can = range.clone().filter(|&place| !left_out(*number, input, place));
+            places.extend(can.map(|place| (question, *number, input, place)));
         }
     }
-    kinds.sort();
-    kinds.dedup();
-    for (number, input, what) in kinds {
-        let counts = QUESTIONS.map(|q| tally.refused.get(&(q, number, input, what)).copied().unwrap_or(0));
-        row(&format!("{number:>4}  {:<14}{what}", format!("{input:?}")), counts);
-    }
-    missing
+    let met: BTreeSet<_> = tally.refused.keys().copied().collect();
+    faults.extend(kinds.difference(&met).map(|kind| format!("not met: {kind:?}")));
+    faults.extend(met.difference(&kinds).map(|kind| format!("met and cannot be: {kind:?}")));
+    faults.extend(places.difference(&tally.places).map(|place| format!("not met at this place: {place:?}")));
+    faults.extend(tally.places.difference(&places).map(|place| format!("met where it cannot be: {place:?}")));
+    faults
 }

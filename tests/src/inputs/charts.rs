@@ -18,6 +18,18 @@ pub fn chart(r: &mut Random, n: usize, m: usize, steps: impl IntoIterator<Item =
     Chart { modes, codes: codes.into_iter().collect(), steps }
 }
 
+/// The bytes of n states, m actions and t triples, which are counted upwards from (0, 0, 0); more than the limits too.
+pub fn counted(n: usize, m: usize, t: usize) -> Vec<u8> {
+    let mut out = vec![n as u8];
+    out.extend((0..n).map(|s| s as u8));
+    out.push(m as u8);
+    // odd codes, so that there is room below each
+    out.extend((0..m).map(|a| 2 * a as u8 + 1));
+    out.extend((t as u16).to_le_bytes());
+    out.extend((0..t).flat_map(|i| [(i / n / m) as u8, (i / n % m) as u8, (i % n) as u8]));
+    out
+}
+
 /// n states, m actions and t steps, drawn from all. t is at most n * m * n.
 pub fn drawn(r: &mut Random, n: usize, m: usize, t: usize) -> Chart {
     let all = n * m * n;

@@ -1,6 +1,7 @@
 //! The boards and edges of document 01, with its values.
 
 use crate::compare::{Checker, Told};
+use crate::inputs::charts::counted;
 use crate::Job;
 
 /// Chart E, 34 bytes.
@@ -27,14 +28,6 @@ fn expect_matrix(c: &mut Checker, what: &str, told: Told, states: u64, rounds: u
 fn expect_satisfying(c: &mut Checker, what: &str, told: Told, word: u64, count: u64, rounds: u64) {
     let fine = told.code == 0 && told.numbers == [word, count, rounds];
     c.expect(fine, || format!("{what}: code {} numbers {:?}", told.code, told.numbers));
-}
-
-fn expect_refused(c: &mut Checker, what: &str, told: Told, refusal: (u64, u64, u64)) {
-    c.expect(told.refusal() == Some(refusal), || format!("{what}: told {:?}, expected {refusal:?}", told.refusal()));
-}
-
-fn expect_accepted(c: &mut Checker, what: &str, told: Told) {
-    c.expect(told.code == 0, || format!("{what}: refused {:?}", told.refusal()));
 }
 
 fn with_kind(mut sheet: [u8; 10], kind: u8) -> [u8; 10] {
@@ -93,43 +86,33 @@ fn edges(c: &mut Checker) {
     let told = c.simulation(&[1, 0, 0, 0, 0], 1);
     expect_matrix(c, "one state, simulation", told, 1, 0, &[1]);
     let told = c.marks(&[], 4096);
-    expect_refused(c, "empty chart", told, (0, 1, 0));
+    c.expect_refused("empty chart", &told, (0, 1, 0));
 
-    // n states, m actions, and t triples counted upwards from (0, 0, 0)
-    let counted = |n: usize, m: usize, t: usize| {
-        let mut out = vec![n as u8];
-        out.extend((0..n).map(|s| s as u8));
-        out.push(m as u8);
-        out.extend((0..m).map(|a| a as u8));
-        out.extend([t as u8, (t >> 8) as u8]);
-        out.extend((0..t).flat_map(|i| [(i / n / m) as u8, (i / n % m) as u8, (i % n) as u8]));
-        out
-    };
     let told = c.marks(&counted(64, 0, 0), 4096);
-    expect_accepted(c, "64 states", told);
+    c.expect_answered("64 states", &told);
     let told = c.marks(&counted(65, 0, 0), 4225);
-    expect_refused(c, "65 states", told, (0, 2, 0));
+    c.expect_refused("65 states", &told, (0, 2, 0));
     let told = c.marks(&counted(1, 32, 0), 1);
-    expect_accepted(c, "32 actions", told);
+    c.expect_answered("32 actions", &told);
     let told = c.marks(&counted(1, 33, 0), 1);
-    expect_refused(c, "33 actions", told, (0, 3, 2));
+    c.expect_refused("33 actions", &told, (0, 3, 2));
     let told = c.marks(&counted(64, 32, 1024), 4096);
-    expect_accepted(c, "1,024 transitions", told);
+    c.expect_answered("1,024 transitions", &told);
     let told = c.marks(&counted(64, 32, 1025), 4096);
-    expect_refused(c, "1,025 transitions", told, (0, 5, 98));
+    c.expect_refused("1,025 transitions", &told, (0, 5, 98));
 
     let mut twice = E.to_vec();
     twice[11] = 8;
     twice.extend([4, 2, 5]);
     let told = c.marks(&twice, 36);
-    expect_refused(c, "the same triple twice", told, (0, 7, 34));
+    c.expect_refused("the same triple twice", &told, (0, 7, 34));
     for (length, enough) in [(36, true), (35, false)] {
         let (marks, simulation) = (c.marks(&E, length), c.simulation(&E, length));
         for told in [marks, simulation] {
             if enough {
-                expect_accepted(c, "buffer of n * n bytes", told);
+                c.expect_answered("buffer of n * n bytes", &told);
             } else {
-                expect_refused(c, "a byte less", told, (2, 14, 0));
+                c.expect_refused("a byte less", &told, (2, 14, 0));
             }
         }
     }
@@ -145,9 +128,9 @@ fn short_forms(c: &mut Checker) {
     };
     for (name, most) in [(0, 197), (1, 197), (2, 194), (3, 197)] {
         let told = c.short_form(&E, &f(most), name, 402);
-        expect_accepted(c, "short form with the most nodes", told);
+        c.expect_answered("short form with the most nodes", &told);
         let told = c.short_form(&E, &f(most + 1), name, 402);
-        expect_refused(c, "short form with a node more", told, (1, 10, 2));
+        c.expect_refused("short form with a node more", &told, (1, 10, 2));
     }
     // written out by hand, for F = diamond 0 true
     let f = [1, 2, 2, 5, 0, 1];
@@ -162,7 +145,7 @@ fn short_forms(c: &mut Checker) {
         let fine = told.code == 0 && told.numbers[0] == length as u64 && told.buffer == written;
         c.expect(fine, || format!("short form {name}: {:?}", told.buffer));
         let told = c.short_form(&E, &f, name, length - 1);
-        expect_refused(c, "buffer a byte too short", told, (2, 14, 0));
+        c.expect_refused("buffer a byte too short", &told, (2, 14, 0));
     }
     // eventually false, on L: only the resting state, by the house form
     let told = c.short_form(&L, &[1, 0, 1, 2], 3, 402);

@@ -154,6 +154,40 @@ fn solutions(c: &mut Checker, chart: &Chart, bytes: &[u8]) {
     }
 }
 
+// ---- drawn charts
+
+fn drawn_by_depth(c: &mut Checker) {
+    for _ in 0..2_500 {
+        let (n, m) = (c.random.within(1, 5), c.random.within(0, 3));
+        let t = c.random.within(0, (n * m * n).min(12));
+        let chart = charts::drawn(&mut c.random, n, m, t);
+        marks_are_depths(c, &chart);
+    }
+}
+
+fn drawn_relations(c: &mut Checker) {
+    for _ in 0..150 {
+        let t = c.random.within(0, 9);
+        let chart = charts::drawn(&mut c.random, 3, 2, t);
+        unions_of_relations(c, &chart);
+    }
+}
+
+fn drawn_sets(c: &mut Checker) {
+    for _ in 0..2_500 {
+        let chart = charts::any(&mut c.random, 5);
+        let sheet = sheets::any(&mut c.random, 12, chart.actions());
+        solutions(c, &chart, &sheet);
+    }
+}
+
+fn all_small_charts(c: &mut Checker, n: usize, m: usize) {
+    each_chart(n, m, 0, 1, |chart| {
+        marks_are_depths(c, chart);
+        unions_of_relations(c, chart);
+    });
+}
+
 pub fn jobs() -> Vec<Job> {
     let mut jobs = Vec::new();
     for share in 0..8 {
@@ -161,48 +195,12 @@ pub fn jobs() -> Vec<Job> {
             name: "definitions: formulas by depth, four states",
             run: Box::new(move |c| each_chart(4, 1, share, 8, |chart| marks_are_depths(c, chart))),
         });
-        jobs.push(Job {
-            name: "definitions: formulas by depth, drawn",
-            run: Box::new(|c| {
-                for _ in 0..2_500 {
-                    let (n, m) = (c.random.within(1, 5), c.random.within(0, 3));
-                    let t = c.random.within(0, (n * m * n).min(12));
-                    let chart = charts::drawn(&mut c.random, n, m, t);
-                    marks_are_depths(c, &chart);
-                }
-            }),
-        });
-        jobs.push(Job {
-            name: "definitions: all relations, drawn",
-            run: Box::new(|c| {
-                for _ in 0..150 {
-                    let t = c.random.within(0, 9);
-                    let chart = charts::drawn(&mut c.random, 3, 2, t);
-                    unions_of_relations(c, &chart);
-                }
-            }),
-        });
-        jobs.push(Job {
-            name: "definitions: all sets",
-            run: Box::new(|c| {
-                for _ in 0..2_500 {
-                    let chart = charts::any(&mut c.random, 5);
-                    let sheet = sheets::any(&mut c.random, 12, chart.actions());
-                    solutions(c, &chart, &sheet);
-                }
-            }),
-        });
+        jobs.push(Job { name: "definitions: formulas by depth, drawn", run: Box::new(drawn_by_depth) });
+        jobs.push(Job { name: "definitions: all relations, drawn", run: Box::new(drawn_relations) });
+        jobs.push(Job { name: "definitions: all sets, drawn", run: Box::new(drawn_sets) });
     }
     for (n, m) in [(1, 0), (1, 1), (1, 2), (2, 1), (2, 2), (3, 1)] {
-        jobs.push(Job {
-            name: "definitions: all small charts",
-            run: Box::new(move |c| {
-                each_chart(n, m, 0, 1, |chart| {
-                    marks_are_depths(c, chart);
-                    unions_of_relations(c, chart);
-                })
-            }),
-        });
+        jobs.push(Job { name: "definitions: all small charts", run: Box::new(move |c| all_small_charts(c, n, m)) });
     }
     jobs
 }

@@ -5,6 +5,7 @@ pub mod damaged;
 pub mod definitions;
 pub mod forms;
 pub mod order;
+pub mod places;
 pub mod sizes;
 pub mod small;
 pub mod valid;
@@ -15,6 +16,7 @@ pub fn jobs() -> Vec<Job> {
     // the longest first, so that the threads end together
     [
         sizes::jobs(),
+        places::jobs(),
         damaged::jobs(),
         valid::jobs(),
         small::jobs(),

@@ -1,38 +1,45 @@
 //! Competing faults, with the refusal that document 01's order gives, written by hand.
 
 use super::boards::E;
-use crate::compare::{Checker, Told};
+use crate::compare::Checker;
 use crate::Job;
 
 /// A chart of 14 bytes, good in all: counts at 0, 3 and 6, codes at 4, triples at 8 and 11.
-const GOOD: [u8; 14] = [2, 7, 8, 2, 1, 2, 2, 0, 0, 0, 1, 1, 1, 0];
+pub const GOOD: [u8; 14] = [2, 7, 8, 2, 1, 2, 2, 0, 0, 0, 1, 1, 1, 0];
 
-fn expect(c: &mut Checker, what: &str, told: Told, input: u64, number: u64, place: u64) {
-    let expected = Some((input, number, place));
-    c.expect(told.refusal() == expected, || format!("{what}: told {:?}, expected {expected:?}", told.refusal()));
+/// The input as it is, and with more after it: each byte is judged as read, so that only where one is absent this matters.
+fn with_more(input: &[u8], number: u64) -> Vec<Vec<u8>> {
+    let more: [&[u8]; 4] = [&[], &[1], &[9], &[255; 300]];
+    let tried = if number == 1 { &more[..1] } else { &more };
+    tried.iter().map(|after| [input, *after].concat()).collect()
 }
 
-fn charts(c: &mut Checker) {
-    let changed = |changes: &[(usize, u8)], length: usize| {
-        let mut out = GOOD.to_vec();
-        out.resize(length.max(14), 9);
-        for &(at, byte) in changes {
-            out[at] = byte;
-        }
-        out.truncate(length);
-        out
-    };
-    let table: &[(&str, Vec<u8>, u64, u64)] = &[
+/// GOOD with these bytes changed, cut or made longer to a length.
+fn changed(changes: &[(usize, u8)], length: usize) -> Vec<u8> {
+    let mut out = GOOD.to_vec();
+    out.resize(length.max(14), 9);
+    for &(at, byte) in changes {
+        out[at] = byte;
+    }
+    out.truncate(length);
+    out
+}
+
+/// What, the chart, and the number and the place of its refusal.
+type Faulty = (&'static str, Vec<u8>, u64, u64);
+
+fn before_the_triples() -> Vec<Faulty> {
+    vec![
         ("nothing", vec![], 1, 0),
-        ("no state, and nothing after", vec![0], 2, 0),
-        ("65 states, and nothing after", vec![65], 2, 0),
+        ("no state", vec![0], 2, 0),
+        ("65 states", vec![65], 2, 0),
         ("255 states", vec![255; 300], 2, 0),
         ("modes absent", changed(&[], 1), 1, 1),
         ("a mode absent", changed(&[], 2), 1, 2),
         ("action count absent", changed(&[], 3), 1, 3),
-        ("33 actions, and nothing after", changed(&[(3, 33)], 4), 3, 3),
+        ("33 actions", changed(&[(3, 33)], 4), 3, 3),
         ("a code absent", changed(&[], 5), 1, 5),
-        ("codes equal, and nothing after", changed(&[(5, 1)], 6), 4, 5),
+        ("codes equal", changed(&[(5, 1)], 6), 4, 5),
         ("codes fall", changed(&[(4, 3)], 14), 4, 5),
         ("the first code 0", changed(&[(4, 0), (12, 2)], 14), 6, 12),
         ("count absent", changed(&[], 6), 1, 6),
@@ -40,10 +47,15 @@ fn charts(c: &mut Checker) {
         ("1,025 transitions", changed(&[(6, 1), (7, 4)], 8), 5, 6),
         ("65,535 transitions", changed(&[(6, 255), (7, 255)], 14), 5, 6),
         ("codes equal and 1,025 transitions", changed(&[(5, 1), (6, 1), (7, 4)], 14), 4, 5),
+    ]
+}
+
+fn triples() -> Vec<Faulty> {
+    vec![
         ("source absent", changed(&[], 8), 1, 8),
-        ("source out of range, and nothing after", changed(&[(8, 2)], 9), 6, 8),
-        ("action out of range, and nothing after", changed(&[(9, 2)], 10), 6, 9),
-        ("target out of range, and nothing after", changed(&[(10, 2)], 11), 6, 10),
+        ("source out of range", changed(&[(8, 2)], 9), 6, 8),
+        ("action out of range", changed(&[(9, 2)], 10), 6, 9),
+        ("target out of range", changed(&[(10, 2)], 11), 6, 10),
         ("source and action out of range", changed(&[(8, 2), (9, 2)], 14), 6, 8),
         ("action and target out of range", changed(&[(9, 255), (10, 255)], 14), 6, 9),
         ("the same triple", changed(&[(11, 0), (12, 0), (13, 1)], 14), 7, 11),
@@ -58,22 +70,23 @@ fn charts(c: &mut Checker) {
         ("a count too large", changed(&[(6, 3)], 14), 1, 14),
         ("no action, one triple", vec![1, 9, 0, 1, 0, 0, 0, 0], 6, 6),
         ("no action, its source out of range", vec![1, 9, 0, 1, 0, 1, 0, 0], 6, 5),
-    ];
-    for (what, chart, number, place) in table {
-        // with no room for an answer too: the chart comes first; and with a bad sheet
-        for buffer in [0, 4096] {
-            let told = c.marks(chart, buffer);
-            expect(c, what, told, 0, *number, *place);
-            let told = c.simulation(chart, buffer);
-            expect(c, what, told, 0, *number, *place);
-            let told = c.short_form(chart, &[0], 9, buffer);
-            expect(c, what, told, 0, *number, *place);
+    ]
+}
+
+fn charts(c: &mut Checker) {
+    for (what, chart, number, place) in before_the_triples().into_iter().chain(triples()) {
+        for chart in with_more(&chart, number) {
+            // with no room for an answer too: the chart comes first; and with a bad sheet
+            for buffer in [0, 4096] {
+                let told = [c.marks(&chart, buffer), c.simulation(&chart, buffer), c.short_form(&chart, &[0], 9, buffer)];
+                told.iter().for_each(|told| c.expect_refused(what, told, (0, number, place)));
+            }
+            let told = c.property(&chart, &[0]);
+            c.expect_refused(what, &told, (0, number, place));
         }
-        let told = c.property(chart, &[0]);
-        expect(c, what, told, 0, *number, *place);
     }
     let told = c.marks(&GOOD, 3);
-    expect(c, "buffer", told, 2, 14, 0);
+    c.expect_refused("buffer", &told, (2, 14, 0));
 }
 
 fn sheets(c: &mut Checker) {
@@ -93,27 +106,24 @@ fn sheets(c: &mut Checker) {
         ("action byte absent", &[1, 0, 1, 5], 1, 4),
         ("action byte m, nodes used up", &[1, 0, 1, 5, 3], 12, 4),
         ("action byte 254", &[1, 0, 2, 6, 254, 1], 12, 4),
-        ("nodes used up at the end", &[1, 0, 1, 5, 0], 13, 5),
-        ("nodes used up, a bad node after", &[1, 0, 1, 5, 0, 9], 13, 5),
-        ("nodes used up, a good node after", &[1, 0, 1, 6, 255, 1], 13, 5),
+        ("nodes used up after a diamond", &[1, 0, 1, 5, 0], 13, 5),
+        ("nodes used up after a box", &[1, 0, 1, 6, 255], 13, 5),
         ("nodes used up within an and", &[1, 0, 2, 3, 1], 13, 5),
         ("both operands missing", &[1, 0, 1, 4], 13, 4),
-        ("complete, nodes remain, nothing after", &[1, 0, 2, 1], 13, 4),
-        ("complete, nodes remain, a bad node after", &[1, 0, 2, 1, 9], 13, 4),
-        ("complete, nodes remain, a good node after", &[1, 0, 2, 1, 1], 13, 4),
+        ("complete, nodes remain", &[1, 0, 2, 1], 13, 4),
+        ("complete with a variable, nodes remain", &[1, 0, 3, 0], 13, 4),
         ("complete, many nodes remain", &[1, 0, 200, 5, 255, 2], 13, 6),
         ("second operand absent", &[1, 0, 3, 3, 1], 1, 5),
         ("second operand bad", &[1, 0, 3, 3, 1, 7], 11, 5),
         ("second operand's action absent", &[1, 0, 4, 3, 1, 5], 1, 6),
         ("a byte left over", &[1, 0, 1, 1, 9], 8, 4),
+        ("a byte left over after a variable", &[1, 0, 1, 0, 9], 8, 4),
         ("a good node left over", &[1, 0, 3, 3, 1, 1, 0], 8, 6),
     ];
-    for (what, sheet, number, place) in table {
-        let told = c.property(&E, *sheet);
-        expect(c, what, told, 1, *number, *place);
-        for (name, buffer) in [(0, 0), (9, 402)] {
-            let told = c.short_form(&E, *sheet, name, buffer);
-            expect(c, what, told, 1, *number, *place);
+    for &(what, sheet, number, place) in table {
+        for sheet in with_more(sheet, number) {
+            let told = [c.property(&E, &sheet), c.short_form(&E, &sheet, 0, 0), c.short_form(&E, &sheet, 9, 402)];
+            told.iter().for_each(|told| c.expect_refused(what, told, (1, number, place)));
         }
     }
 }
@@ -145,7 +155,12 @@ fn short_forms(c: &mut Checker) {
     ];
     for (what, sheet, name, buffer, input, number, place) in table {
         let told = c.short_form(&E, sheet, name, buffer);
-        expect(c, what, told, input, number, place);
+        c.expect_refused(what, &told, (input, number, place));
+    }
+    // a name with a higher bit, whatever its lower ones
+    for name in (2..64).flat_map(|bit| (0..4).map(move |low| 1 << bit | low)) {
+        let told = c.short_form(&E, &plain, name, 402);
+        c.expect_refused("a great name", &told, (2, 17, 0));
     }
 }
 

@@ -4,32 +4,64 @@
 use crate::compare::Checker;
 use crate::inputs::sheets::Leaves;
 use crate::inputs::{charts, sheets};
+use crate::reference::chart::Chart;
+use crate::reference::short_form::added;
 use crate::Job;
+use std::ops::RangeInclusive;
+
+/// All four questions must be answered, in buffers that are just long enough or longer, and those with a buffer refused in one
+/// that is a byte shorter.
+fn answered(c: &mut Checker, chart: &Chart, nodes: usize) {
+    let (bytes, cells, m) = (chart.bytes(), chart.states().pow(2), chart.actions());
+    let sheet = sheets::any(&mut c.random, nodes, m);
+    let f = sheets::drawn(&mut c.random, nodes, m, Leaves::WithoutVariable);
+    let name = c.random.below(4) as u64;
+    let written = f.len() + added(name);
+    let more = c.random.below(2) * c.random.below(100);
+    let told = [
+        c.marks(&bytes, cells + more),
+        c.simulation(&bytes, cells + more),
+        c.property(&bytes, &sheet),
+        c.short_form(&bytes, &f, name, written + more),
+    ];
+    told.iter().for_each(|told| c.expect_answered("a good input", told));
+    let told = [c.marks(&bytes, cells - 1), c.simulation(&bytes, cells - 1), c.short_form(&bytes, &f, name, written - 1)];
+    told.iter().for_each(|told| c.expect_refused("a buffer too short", told, (2, 14, 0)));
+}
 
 fn states_and_actions(c: &mut Checker, n: usize) {
     for m in 0..=32 {
         let t = c.random.within(0, (n * m * n).min(2 * n));
-        let chart = charts::drawn(&mut c.random, n, m, t).bytes();
-        c.matrices(&chart);
-        let sheet = sheets::any(&mut c.random, 20, m);
-        c.sheets(&chart, &sheet);
+        let chart = charts::drawn(&mut c.random, n, m, t);
+        answered(c, &chart, 20);
     }
 }
 
 fn transitions(c: &mut Checker, t: usize) {
     // with 32 actions six states have room for 1,024
     let n = 6 + t * 7 % 59;
-    let chart = charts::drawn(&mut c.random, n, 32, t).bytes();
-    c.matrices(&chart);
-    let sheet = sheets::any(&mut c.random, 12, 32);
-    c.sheets(&chart, &sheet);
+    let chart = charts::drawn(&mut c.random, n, 32, t);
+    answered(c, &chart, 12);
 }
 
+/// Every number of nodes, with every name: a result of more than 200 is refused.
 fn nodes(c: &mut Checker, nodes: usize) {
     for leaves in [Leaves::WithVariable, Leaves::WithoutVariable] {
         let chart = charts::any(&mut c.random, 12);
+        let bytes = chart.bytes();
         let sheet = sheets::drawn(&mut c.random, nodes, chart.actions(), leaves);
-        c.sheets(&chart.bytes(), &sheet);
+        let told = c.property(&bytes, &sheet);
+        c.expect_answered("a sheet", &told);
+        c.sheets(&bytes, &sheet);
+        let f = sheets::drawn(&mut c.random, nodes, chart.actions(), Leaves::WithoutVariable);
+        for (name, most) in [(0, 197), (1, 197), (2, 194), (3, 197)] {
+            let told = c.short_form(&bytes, &f, name, 402);
+            if nodes <= most {
+                c.expect_answered("an F", &told);
+            } else {
+                c.expect_refused("an F that is too long", &told, (1, 10, 2));
+            }
+        }
     }
 }
 
@@ -73,28 +105,25 @@ fn most_rounds(c: &mut Checker) {
     c.expect(told.numbers[1] == 31 * 33, || format!("rings of 31 and 33: {} rounds", told.numbers[1]));
 }
 
+/// A name, sizes, and what is asked of each.
+type Sized = (&'static str, RangeInclusive<usize>, fn(&mut Checker, usize));
+
 pub fn jobs() -> Vec<Job> {
     let mut jobs = vec![
         Job { name: "sizes: most rounds", run: Box::new(most_rounds) },
         Job { name: "sizes: buffers", run: Box::new(buffers) },
     ];
+    let parts: [Sized; 4] = [
+        ("sizes: states and actions", 1..=64, states_and_actions),
+        ("sizes: transitions", 0..=1024, transitions),
+        ("sizes: nodes", 1..=200, nodes),
+        ("sizes: rounds", 2..=64, rounds),
+    ];
     for k in 0..8 {
-        jobs.push(Job {
-            name: "sizes: states and actions",
-            run: Box::new(move |c| (1..=64).filter(|n| n % 8 == k).for_each(|n| states_and_actions(c, n))),
-        });
-        jobs.push(Job {
-            name: "sizes: transitions",
-            run: Box::new(move |c| (0..=1024).filter(|t| t % 8 == k).for_each(|t| transitions(c, t))),
-        });
-        jobs.push(Job {
-            name: "sizes: nodes",
-            run: Box::new(move |c| (1..=200).filter(|n| n % 8 == k).for_each(|n| nodes(c, n))),
-        });
-        jobs.push(Job {
-            name: "sizes: rounds",
-            run: Box::new(move |c| (2..=64).filter(|n| n % 8 == k).for_each(|n| rounds(c, n))),
-        });
+        jobs.extend(parts.clone().map(|(name, sizes, ask)| Job {
+            name,
+            run: Box::new(move |c| sizes.clone().filter(|size| size % 8 == k).for_each(|size| ask(c, size))),
+        }));
     }
     jobs
 }

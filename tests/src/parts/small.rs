@@ -5,7 +5,7 @@ use crate::compare::Checker;
 use crate::Job;
 
 /// Every string of `length` bytes from `letters`.
-fn strings(letters: &[u8], length: usize, mut each: impl FnMut(&[u8])) {
+fn strings<T>(letters: &[u8], length: usize, mut each: impl FnMut(&[u8]) -> T) {
     let mut string = vec![0; length];
     for i in 0..letters.len().pow(length as u32) {
         let mut rest = i;

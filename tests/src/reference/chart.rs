@@ -54,7 +54,14 @@ impl Chart {
 /// The chart, from the first byte on, each byte judged as read.
 pub fn read(bytes: &[u8]) -> Result<Chart, Refusal> {
     let mut c = Cursor::new(Input::Chart, bytes);
+    let modes = read_states(&mut c)?;
+    let codes = read_actions(&mut c)?;
+    let steps = read_transitions(&mut c, modes.len(), codes.len())?;
+    c.end()?;
+    Ok(Chart { modes, codes, steps })
+}
 
+fn read_states(c: &mut Cursor) -> Result<Vec<u8>, Refusal> {
     let n = c.byte("state count")?;
     if n == 0 {
         return c.refuse(2, 0, "no state");
@@ -62,11 +69,10 @@ pub fn read(bytes: &[u8]) -> Result<Chart, Refusal> {
     if n > 64 {
         return c.refuse(2, 0, "too many states");
     }
-    let mut modes = Vec::new();
-    for _ in 0..n {
-        modes.push(c.byte("mode code")?);
-    }
+    (0..n).map(|_| c.byte("mode code")).collect()
+}
 
+fn read_actions(c: &mut Cursor) -> Result<Vec<u8>, Refusal> {
     let m = c.byte("action count")?;
     if m > 32 {
         return c.refuse(3, c.at - 1, "action count");
@@ -81,7 +87,10 @@ pub fn read(bytes: &[u8]) -> Result<Chart, Refusal> {
         }
         codes.push(code);
     }
+    Ok(codes)
+}
 
+fn read_transitions(c: &mut Cursor, n: usize, m: usize) -> Result<Vec<Step>, Refusal> {
     let count_at = c.at;
     let low = c.byte("low byte of the transition count")? as usize;
     let high = c.byte("high byte of the transition count")? as usize;
@@ -92,18 +101,9 @@ pub fn read(bytes: &[u8]) -> Result<Chart, Refusal> {
     let mut steps: Vec<Step> = Vec::new();
     for _ in 0..t {
         let first = c.at;
-        let source = c.byte("source")?;
-        if source >= n {
-            return c.refuse(6, c.at - 1, "source");
-        }
-        let action = c.byte("action")?;
-        if action >= m {
-            return c.refuse(6, c.at - 1, "action");
-        }
-        let target = c.byte("target")?;
-        if target >= n {
-            return c.refuse(6, c.at - 1, "target");
-        }
+        let source = below(c, n, "source")?;
+        let action = below(c, m, "action")?;
+        let target = below(c, n, "target")?;
         let step = Step { source, action, target };
         if let Some(&before) = steps.last() {
             if step <= before {
@@ -112,9 +112,16 @@ pub fn read(bytes: &[u8]) -> Result<Chart, Refusal> {
         }
         steps.push(step);
     }
+    Ok(steps)
+}
 
-    c.end()?;
-    Ok(Chart { modes, codes, steps })
+/// A state or action byte of a triple. 6: it is out of range.
+fn below(c: &mut Cursor, bound: usize, what: &'static str) -> Result<u8, Refusal> {
+    let byte = c.byte(what)?;
+    if byte as usize >= bound {
+        return c.refuse(6, c.at - 1, what);
+    }
+    Ok(byte)
 }
 
 fn order_fault(step: Step, before: Step) -> &'static str {
