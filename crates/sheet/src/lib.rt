@@ -28,7 +28,7 @@ pub enum SheetRead {
 }
 
 // The node at a place, for a chart of m actions.
-pub fn node_at(bytes: &[u8], m: usize, at: usize) -> Node
+fn node_at(bytes: &[u8], m: usize, at: usize) -> Node
     ensures { λ r. ⌜ r ≡ nodeAt (now (bytes .entry)) m at ⌝ }
 {
     if bytes.len() <= at {
@@ -58,7 +58,7 @@ pub fn node_at(bytes: &[u8], m: usize, at: usize) -> Node
 }
 
 // The formula at a place, of at most left nodes. Nodes used up are told before the next byte is looked at.
-pub fn read_formula(bytes: &[u8], m: usize, at: usize, left: usize) -> FormulaRead
+fn read_formula(bytes: &[u8], m: usize, at: usize, left: usize) -> FormulaRead
     ensures { λ r. ⌜ r ≡ formulaRead (parse left (now (bytes .entry)) m at left) ⌝ }
 {
     if left == 0 {

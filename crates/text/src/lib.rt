@@ -8,7 +8,7 @@ ghost use lib.Dec.{leb};
 ghost use Rattle.text.specs.Text.{decimal, line, placed, PutPromise};
 
 // How many digits x has.
-pub fn width(x: usize) -> usize
+fn width(x: usize) -> usize
     ensures { λ r. ⌜ r ≡ length (decimal x) ⌝ }
 {
     let mut n: usize = 1;
