@@ -2,7 +2,7 @@
 use Prim.Native.Nat.{ℕ, zero, suc, _+_, _*_, _<_, _≤_}
 use mathlib.Core.Path.{_≡_, refl, ap, _∙_}
 use mathlib.Core.Bool.{Bool, true, false}
-use mathlib.Core.List.{List}
+use mathlib.Core.List.{List, List·Memᴰ as Mem}
 use mathlib.Core.Logic.{inl, inr}
 use native.Mathlib.Omega.{arith}
 use native.Mathlib.Decide.{le-ind}
@@ -13,7 +13,7 @@ use Rattle.refusal.specs.declared.Refusal.{Refusal}
 use Rattle.settle.specs.Test.{pick}
 use Rattle.chart.specs.Chart.{Step}
 use Rattle.chart.specs.Layout.{Earlier, StepIn}
-use Rattle.chart.specs.Reading.{stepAt, presence, judgeCodes, judgeTriple, judgeTriples, whereFine, readTransitions, readActions, readChart}
+use Rattle.chart.specs.Reading.{stepAt, chartIn, presence, judgeCodes, judgeTriple, judgeTriples, whereFine, readTransitions, readActions, readChart}
 use Rattle.chart.specs.declared.Judged.{Judged}
 use Rattle.chart.specs.declared.Judged.the-variants.{Fine, Bad}
 use Rattle.chart.specs.declared.Shape.{Shape}
@@ -21,6 +21,7 @@ use Rattle.chart.specs.declared.ChartRead.{ChartRead}
 use Rattle.chart.specs.declared.ChartRead.the-variants as Read
 use Rattle.chart.proofs.Judging.{CodesIn, codes-fine, fine-codes, triples-fine, fine-triples, code-rises, rises-code, triple-rises, rises-triple}
 use Rattle.chart.proofs.Reading.{present, triple-fine}
+use Rattle.chart.proofs.Steps.{step-member}
 
 pub record Accepted (s : List ℕ) (sh : Shape) : Type 0 where
   pub states-some : 1 ≤ sh .n
@@ -217,3 +218,7 @@ sources-rise s sh A i j h =
     next k h below l =
         let e : k + 1 ≡ suc k = omega arith in
         omega (arith, below (omega arith), source-rises _ _ (rw e at (A .steps-rise k (omega arith))))
+
+-- every step leads from a state to a state
+pub each-step : (s : List ℕ) (sh : Shape) → readChart s ≡ Read.Chart sh → (u : Step) → Mem u (chartIn s sh .steps) → StepIn (sh .n) (sh .m) u
+each-step s sh e u i = let q = step-member s (4 + sh .n + sh .m) (sh .t) i in rw (q .2) (accepted s sh e .steps-in (q .0) (q .1))

@@ -1,1 +1,3 @@
+pub mod Modal
+pub mod Operands
 pub mod Evaluating

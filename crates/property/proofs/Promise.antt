@@ -15,7 +15,7 @@ use Rattle.chart.specs.Reading.{chartIn, readChart, shapeOf, Reads}
 use Rattle.chart.specs.declared.Shape.{Shape}
 use Rattle.chart.specs.declared.ChartRead.{ChartRead}
 use Rattle.chart.specs.declared.ChartRead.the-variants as Read
-use Rattle.chart.proofs.Accepted.{accepted}
+use Rattle.chart.proofs.Accepted.{accepted, each-step}
 use Rattle.chart.proofs.Exactly.{accepted-exactly as chart-accepted}
 use Rattle.chart.proofs.Refused.{refused as chart-refused-placed}
 use Rattle.chart.proofs.Steps.{bytesAt-length}
@@ -31,7 +31,6 @@ use Rattle.sheet.proofs.Solution.{targets-below, sheet-rounds, sheet-rounds-le,
 use Rattle.words.specs.Words.{member}
 use Rattle.words.proofs.Words.{word-lt, word-member, word-ext, word-cong}
 use Rattle.evaluate.specs.Evaluating.{ReadAs}
-use Rattle.evaluate.proofs.Evaluating.{each-step}
 use Rattle.property.specs.Solving.{firstSet, Reached, Solves}
 use Rattle.property.specs.Promise.{Solution, Unsettled, Answers, PropertyPromise}
 use Rattle.property.specs.declared.Solved.{Solved}

@@ -6,12 +6,17 @@ use mathlib.Core.Logic.{_⊎_, inl, inr}
 use Prim.Native.Nat.{suc, _+_, _≤_, _<_}
 use native.Mathlib.Omega.{arith}
 use lib.ListN.{length}
-use Rattle.settle.specs.Test.{both, either, implies, neg, same, tick, anyOf, allOf, some, each, count}
+use Rattle.settle.specs.Test.{pick, both, either, implies, neg, same, tick, anyOf, allOf, some, each, count}
 
 -- ---- one test
 
 pub never {ℓ} : {X : Type ℓ} → So false → X
 never t = absurd (false≢true t)
+
+-- of a choice by a test, each case under what the test then says
+pub by-test : {A : Type 0} {x y : A} (P : A → Type 0) (b : Bool) → (b ≡ true → P x) → (b ≡ false → P y) → P (pick b x y)
+by-test P true holds fails = holds refl
+by-test P false holds fails = fails refl
 
 pub tested : (b : Bool) → So b ⊎ (So b → ⊥)
 tested true = inl refl
@@ -62,6 +67,21 @@ unfolding either
 either-n {a = true} f g = f
 either-n {a = false} f g = g
 
+pub either-false : (b : Bool) → either b false ≡ b
+unfolding either
+either-false true = refl
+either-false false = refl
+
+pub both-true : (b : Bool) → both b true ≡ b
+unfolding both
+both-true true = refl
+both-true false = refl
+
+pub both-false : (b : Bool) → both b false ≡ false
+unfolding both
+both-false true = refl
+both-false false = refl
+
 pub implies-i : (a b : Bool) → (So a → So b) → So (implies a b)
 unfolding implies
 implies-i true b f = f refl
@@ -111,6 +131,15 @@ module _ {A : Type 0} where
   unfolding anyOf
   any-e p [] t = never t
   any-e p (x ∷ xs) t = elim (either-e _ _ t) [ inl s ↦ (x, here refl, s) | inr s ↦ let r = any-e p xs s in (r .0, there (r .1), r .2) ]
+
+  pub any-more : (p : A → Bool) (xs : List A) (x : A) → anyOf p (xs ++ (x ∷ [])) ≡ either (anyOf p xs) (p x)
+  unfolding anyOf either
+  any-more p [] x = either-false (p x)
+  any-more p (y ∷ xs) x = rw (any-more p xs x) (go (p y))
+    where
+      go : (b : Bool) → either b (either (anyOf p xs) (p x)) ≡ either (either b (anyOf p xs)) (p x)
+      go true = refl
+      go false = refl
 
   pub all-i : (p : A → Bool) (xs : List A) → ((x : A) → Mem x xs → So (p x)) → So (allOf p xs)
   unfolding allOf

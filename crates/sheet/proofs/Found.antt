@@ -10,7 +10,7 @@ use borrow.Author.Tests.{leb-true, leb-false, ltb-true, ltb-false, eqb-true, eqb
 use lib.Dec.{leb, ltb, eqb}
 use lib.ListN.{length, getD, drop, length-append}
 use lib.Seq.{drop-cons}
-use Rattle.settle.specs.Test.{pick}
+use Rattle.settle.proofs.Test.{by-test}
 use Rattle.refusal.specs.Refusal.{sheetRefusal}
 use Rattle.refusal.specs.declared.Input.the-variants as Input
 use Rattle.refusal.specs.declared.Refusal.{Refusal}
@@ -20,11 +20,6 @@ use Rattle.sheet.specs.Reading.{nodeAt, leafOf, twoOf, labelOf, oneOf, P
 use Rattle.sheet.specs.Reading.{Sheet, sheet, refused, ending, readNodes, readSheet}
 use Rattle.sheet.specs.declared.Node.{Node}
 use Rattle.sheet.specs.declared.Node.the-variants.{Leaf, Two, One, Bad}
-
--- of a choice by a test, each case under what the test then says
-by-test : {A : Type 0} {x y : A} (P : A → Type 0) (b : Bool) → (b ≡ true → P x) → (b ≡ false → P y) → P (pick b x y)
-by-test P true holds fails = holds refl
-by-test P false holds fails = fails refl
 
 -- a refusal of the sheet, at most so far on
 pub record FaultBy (far : ℕ) (r : Refusal) : Type 0 where

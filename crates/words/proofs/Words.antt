@@ -27,6 +27,9 @@ unfolding wordOf
 word-lt zero P = omega arith
 word-lt (suc n) P = rw (pow-suc 2 n) (one-more (P n) (wordOf n P) (2 ^ n) (word-lt n P))
 
+pub word-small : (n w : ℕ) (P : ℕ → Bool) → w ≡ wordOf n P → w < 2 ^ n
+word-small n w P e = rw e (word-lt n P)
+
 pub word-cong : (n : ℕ) (P Q : ℕ → Bool) → ((x : ℕ) → x < n → P x ≡ Q x) → wordOf n P ≡ wordOf n Q
 unfolding wordOf
 word-cong zero P Q h = refl

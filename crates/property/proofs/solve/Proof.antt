@@ -1,9 +1,9 @@
 use Prim.Native.Nat.{_-_}
 use borrow.Author.Needs.{needs}
 use Rattle.chart.specs.Reading.{chartIn}
-use Rattle.chart.proofs.Accepted.{accepted}
+use Rattle.chart.proofs.Accepted.{accepted, each-step}
 use Rattle.sheet.specs.Reading.{parse}
-use Rattle.evaluate.proofs.Evaluating.{each-step, word-small}
+use Rattle.words.proofs.Words.{word-small}
 use Rattle.property.specs.Solving.{formulaOf, application, firstSet}
 use Rattle.property.proofs.Solving.{Rounding, started, one-more, settled-rounds, never-settled}
 use Rattle.property.proofs.solve.Statement.{statement}

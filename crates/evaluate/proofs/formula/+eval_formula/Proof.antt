@@ -6,7 +6,8 @@ use borrow.Fn.Kinds.{In}
 use borrow.Fn.PlainCycle.{Measures, is, falls, and}
 use Rattle.chart.proofs.Accepted.{accepted}
 use Rattle.sheet.specs.Reading.{parse}
-use Rattle.evaluate.proofs.Evaluating.{value-small, value-fewer, some-left, node-inside, leaf-value, first-of-two, second-of-two, two-value, action-inside, operand-was, modal-value}
+use Rattle.evaluate.proofs.Operands.{some-left, node-inside, first-of-two, action-inside, operand-was}
+use Rattle.evaluate.proofs.Evaluating.{value-small, value-fewer, leaf-value, second-of-two, two-value, modal-value}
 use Rattle.evaluate.proofs.formula.eval_formula.Reads as eval-formula
 use Rattle.evaluate.proofs.formula.eval_formula.Kinds as eval-formula-kinds
 use Rattle.evaluate.proofs.formula.+eval_formula.Lts-eval_formula as eval-formula-lts

@@ -1,7 +1,8 @@
 use native.Mathlib.Omega.{arith}
 use borrow.Author.Needs.{needs}
 use Rattle.chart.proofs.Accepted.{accepted}
-use Rattle.evaluate.proofs.Evaluating.{word-small, word-box}
+use Rattle.words.proofs.Words.{word-small}
+use Rattle.evaluate.proofs.Modal.{word-box}
 use Rattle.evaluate.proofs.formula.box_of.Statement.{statement}
 use Rattle.evaluate.proofs.formula.box_of.Tie as tie
 

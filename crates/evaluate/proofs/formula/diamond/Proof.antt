@@ -6,7 +6,7 @@ use Rattle.chart.specs.Reading.{stepsAt}
 use Rattle.chart.proofs.Accepted.{accepted}
 use Rattle.words.specs.Words.{wordOf, member}
 use Rattle.evaluate.specs.Evaluating.{reaches}
-use Rattle.evaluate.proofs.Evaluating.{reach-none, reach-more}
+use Rattle.evaluate.proofs.Modal.{reach-none, reach-more}
 use Rattle.evaluate.proofs.formula.diamond.Statement.{statement}
 use Rattle.evaluate.proofs.formula.diamond.Tie as tie
 
