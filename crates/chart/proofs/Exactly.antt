@@ -3,17 +3,15 @@ use Prim.Native.Nat.{ℕ, zero, suc, _+_, _*_, _%_, _/_, _<_, _≤_}
 use mathlib.Core.Path.{_≡_, refl, ap, sym, _∙_}
 use mathlib.Core.List.{List, [], _∷_, _++_, append-nil, List·Memᴰ·head, List·Memᴰ·tail}
 use mathlib.Core.Logic.{_↔_}
-use native.Mathlib.Numerals.{add-one}
 use native.Mathlib.Omega.{arith}
 use lib.ListN.{length, getD, drop, length-append, drop-of-length-le}
-use lib.Seq.{drop-cons}
 use Rattle.chart.specs.Chart.{Step, Chart, states, actions, transitions}
 use Rattle.chart.specs.Layout.{stepBytes, encode, Earlier, Rising, Bytes, WellFormed}
 use Rattle.chart.specs.Reading.{bytesAt, stepAt, stepsAt, chartIn, readChart, shapeOf, Reads}
 use Rattle.chart.specs.declared.Shape.{Shape}
 use Rattle.chart.specs.declared.ChartRead.{ChartRead}
 use Rattle.chart.specs.declared.ChartRead.the-variants as Read
-use Rattle.chart.proofs.Steps.{bytesAt-length, bytesAt-getD, byte-member, stepsAt-length, stepsAt-getD, step-member, member-step}
+use Rattle.chart.proofs.Steps.{byte-then, first-byte, bytesAt-length, bytesAt-getD, byte-member, stepsAt-length, stepsAt-getD, step-member, member-step}
 use Rattle.chart.proofs.Accepted.{Accepted, accepted, accepts}
 
 -- ---- rising, by numbers
@@ -36,22 +34,12 @@ at-rising R d (x ∷ (y ∷ l)) f =
 
 -- ---- bytes that stand in a row
 
--- what stands at p where the bytes from p on begin with x
-there : (s : List ℕ) (p x : ℕ) (ys : List ℕ) → drop p s ≡ x ∷ ys → (p < length s) × (getD s p 0 ≡ x) × (drop (p + 1) s ≡ ys)
-there [] zero x ys e = let z : _≡_ {A = ℕ} 0 1 = cc in absurd (omega arith)
-there [] (suc p) x ys e = let z : _≡_ {A = ℕ} 0 1 = cc in absurd (omega arith)
-there (y ∷ s) zero x ys e = (omega arith, cc, cc)
-there (y ∷ s) (suc p) x ys e =
-    let q : suc p + 1 ≡ suc (p + 1) = omega arith in
-    let b = there s p x ys e in
-    (omega (arith, b .0), b .1, rw q (b .2))
-
 bytes-there : (s : List ℕ) (p : ℕ) (xs rest : List ℕ) → drop p s ≡ xs ++ rest
     → (bytesAt s p (length xs) ≡ xs) × (drop (p + length xs) s ≡ rest)
 unfolding bytesAt
 bytes-there s p [] rest e = let q : p + 0 ≡ p = omega arith in (refl, rw q e)
 bytes-there s p (x ∷ xs) rest e =
-    let a = there s p x (xs ++ rest) e in
+    let a = first-byte s p e in
     let b = bytes-there s (p + 1) xs rest (a .2) in
     let q : p + suc (length xs) ≡ p + 1 + length xs = omega arith in
     (rw (a .1, b .0), rw q (b .1))
@@ -61,24 +49,21 @@ steps-there : (s : List ℕ) (p : ℕ) (us : List Step) (rest : List ℕ) → dr
 unfolding stepsAt stepBytes
 steps-there s p [] rest e = let q : p + 3 * 0 ≡ p = omega arith in (refl, rw q e)
 steps-there s p (u ∷ us) rest e =
-    let a = there s p _ _ e in
-    let b = there s (p + 1) _ _ (a .2) in
+    let a = first-byte s p e in
+    let b = first-byte s (p + 1) (a .2) in
     let i : p + 1 + 1 ≡ p + 2 = omega arith in
-    let c = there s (p + 2) _ _ (rw i at (b .2)) in
+    let c = first-byte s (p + 2) (rw i at (b .2)) in
     let j : p + 2 + 1 ≡ p + 3 = omega arith in
     let d = steps-there s (p + 3) us rest (rw j at (c .2)) in
     let q : p + 3 * suc (length us) ≡ p + 3 + 3 * length us = omega arith in
     (rw (a .1, b .1, c .1, d .0), rw q (d .1))
-
-drop-one : (s : List ℕ) (p : ℕ) → p < length s → drop p s ≡ getD s p 0 ∷ drop (p + 1) s
-drop-one s p h = rw (add-one, drop-cons s p 0 h)
 
 drop-bytes : (s : List ℕ) (p k : ℕ) → p + k ≤ length s → drop p s ≡ bytesAt s p k ++ drop (p + k) s
 unfolding bytesAt
 drop-bytes s p zero h = let q : p + 0 ≡ p = omega arith in rw q
 drop-bytes s p (suc k) h =
     let q : p + suc k ≡ p + 1 + k = omega arith in
-    rw q (drop-one s p (omega arith) ∙ ap (λ (l : List ℕ). getD s p 0 ∷ l) (drop-bytes s (p + 1) k (omega arith)))
+    rw q (byte-then s p (omega arith) ∙ ap (λ (l : List ℕ). getD s p 0 ∷ l) (drop-bytes s (p + 1) k (omega arith)))
 
 drop-steps : (s : List ℕ) (p k : ℕ) → p + 3 * k ≤ length s → drop p s ≡ stepBytes (stepsAt s p k) ++ drop (p + 3 * k) s
 unfolding stepsAt stepBytes
@@ -87,9 +72,9 @@ drop-steps s p (suc k) h =
     let q : p + 3 * suc k ≡ p + 3 + 3 * k = omega arith in
     let i : p + 1 + 1 ≡ p + 2 = omega arith in
     let j : p + 2 + 1 ≡ p + 3 = omega arith in
-    let a = drop-one s p (omega arith) in
-    let b = rw i at (drop-one s (p + 1) (omega arith)) in
-    let c = rw j at (drop-one s (p + 2) (omega arith)) in
+    let a = byte-then s p (omega arith) in
+    let b = rw i at (byte-then s (p + 1) (omega arith)) in
+    let c = rw j at (byte-then s (p + 2) (omega arith)) in
     let d = drop-steps s (p + 3) k (omega arith) in
     rw q (cc)
 
@@ -118,14 +103,14 @@ written s c e =
     let m : ℕ = actions c in
     let t : ℕ = transitions c in
     let tail : List ℕ = t % 256 ∷ t / 256 ∷ stepBytes (c .steps) in
-    let a = there s 0 n (c .modes ++ (m ∷ c .codes ++ tail)) e in
+    let a = first-byte s 0 e in
     let b = bytes-there s 1 (c .modes) (m ∷ c .codes ++ tail) (a .2) in
-    let d = there s (1 + n) m (c .codes ++ tail) (b .1) in
+    let d = first-byte s (1 + n) (b .1) in
     let i : 1 + n + 1 ≡ 2 + n = omega arith in
     let f = bytes-there s (2 + n) (c .codes) tail (rw i at (d .2)) in
-    let g = there s (2 + n + m) (t % 256) (t / 256 ∷ stepBytes (c .steps)) (f .1) in
+    let g = first-byte s (2 + n + m) (f .1) in
     let j : 2 + n + m + 1 ≡ 3 + n + m = omega arith in
-    let h = there s (3 + n + m) (t / 256) (stepBytes (c .steps)) (rw j at (g .2)) in
+    let h = first-byte s (3 + n + m) (rw j at (g .2)) in
     let k : 3 + n + m + 1 ≡ 4 + n + m = omega arith in
     let l = steps-there s (4 + n + m) (c .steps) [] (rw k at (h .2) ∙ sym (append-nil _)) in
     let whole : length s ≡ 4 + n + m + 3 * t = ap length e ∙ simp (length-append, stepBytes-length) (omega arith) in
@@ -197,12 +182,12 @@ accepted-encoded s sh B A =
     let i : 1 + n + 1 ≡ 2 + n = omega arith in
     let j : 2 + n + m + 1 ≡ 3 + n + m = omega arith in
     let k : 3 + n + m + 1 ≡ 4 + n + m = omega arith in
-    let e₁ = rw (A .states-at) at (drop-one s 0 (omega arith)) in
+    let e₁ = rw (A .states-at) at (byte-then s 0 (omega arith)) in
     let e₂ = drop-bytes s 1 n (omega arith) in
-    let e₃ = rw (i, A .actions-at) at (drop-one s (1 + n) (omega arith)) in
+    let e₃ = rw (i, A .actions-at) at (byte-then s (1 + n) (omega arith)) in
     let e₄ = drop-bytes s (2 + n) m (omega arith) in
-    let e₅ = rw j at (drop-one s (2 + n + m) (omega arith)) in
-    let e₆ = rw k at (drop-one s (3 + n + m) (omega arith)) in
+    let e₅ = rw j at (byte-then s (2 + n + m) (omega arith)) in
+    let e₆ = rw k at (byte-then s (3 + n + m) (omega arith)) in
     let e₇ = drop-steps s (4 + n + m) t (omega arith) in
     let e₈ = drop-of-length-le s {i = 4 + n + m + 3 * t} (omega arith) in
     rw (bytesAt-length s 1 n, bytesAt-length s (2 + n) m, stepsAt-length s (4 + n + m) t, low, high) (cc (append-nil (stepBytes (stepsAt s (4 + n + m) t))))

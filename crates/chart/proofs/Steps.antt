@@ -1,10 +1,12 @@
 -- The bytes and the triples from a place on, by their numbers.
 use Prim.Native.Nat.{ℕ, zero, suc, _+_, _*_, _<_}
-use mathlib.Core.Path.{_≡_, refl, ap}
+use mathlib.Core.Path.{_≡_, refl, ap, sym, _∙_}
 use mathlib.Core.List.{List, [], _∷_, _++_, List·Memᴰ as Mem, List·Memᴰ·head, List·Memᴰ·tail, List·Memᴰ·not-nil, List·Memᴰ·cases-cons}
 use mathlib.Core.Logic.{_⊎_, inl, inr}
+use native.Mathlib.Numerals.{add-one}
 use native.Mathlib.Omega.{arith}
-use lib.ListN.{length, getD}
+use lib.ListN.{length, getD, drop, length-drop}
+use lib.Seq.{drop-cons}
 use Rattle.chart.specs.Chart.{Step}
 use Rattle.chart.specs.Reading.{bytesAt, stepAt, stepsAt}
 
@@ -35,6 +37,18 @@ bytesAt-getD s p (suc k) zero h = let q : p + 0 ≡ p = omega arith in rw q
 bytesAt-getD s p (suc k) (suc i) h =
     let q : p + suc i ≡ p + 1 + i = omega arith in
     rw q (bytesAt-getD s (p + 1) k i (omega arith))
+
+-- ---- the bytes from a place on
+
+pub byte-then : (s : List ℕ) (p : ℕ) → p < length s → drop p s ≡ getD s p 0 ∷ drop (p + 1) s
+byte-then s p h = rw (add-one, drop-cons s p 0 h)
+
+-- what stands at a place where the bytes from there on begin with x
+pub first-byte : (s : List ℕ) (p : ℕ) {x : ℕ} {xs : List ℕ} → drop p s ≡ x ∷ xs → (p < length s) × (getD s p 0 ≡ x) × (drop (p + 1) s ≡ xs)
+first-byte s p {x} {xs} e =
+    let here : p < length s = omega (arith, length-drop p s, ap length e) in
+    let both : getD s p 0 ∷ drop (p + 1) s ≡ x ∷ xs = sym (byte-then s p here) ∙ e in
+    (here, cc, cc)
 
 -- ---- triples
 

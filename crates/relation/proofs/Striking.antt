@@ -10,7 +10,7 @@ use lib.ListN.{length, getD, set, length-set}
 use lib.Seq.{getD-set-same, getD-set-other}
 use borrow.Author.Tests.{eqb-true, eq-eqb}
 use Rattle.settle.specs.Test.{pick, either}
-use Rattle.settle.proofs.Test.{never, both-i, both-e, either-l, either-r, neg-i, neg-e}
+use Rattle.settle.proofs.Test.{never, both-i, both-e, either-l, either-r, neg-i, neg-e, picked, unpicked, either-false}
 use Rattle.chart.specs.Chart.{Step}
 use Rattle.relation.specs.Held.{standing, readBy, held, roundOf, falls, SomeFalls, Struck, Cleared}
 use Rattle.relation.proofs.Cells.{cell-pair}
@@ -80,11 +80,7 @@ module _ (bothWays : Bool) (steps : List Step) (n v : ℕ) where
 
     pub struck-unchanged : more ≡ false → Struck bothWays steps n v old new low high changed
     unfolding either
-    struck-unchanged e = subst (Struck bothWays steps n v old new low high) (ap (either changed) e ∙ or-false changed) (struck-more l h s u)
-      where
-        or-false : (b : Bool) → either b false ≡ b
-        or-false true = refl
-        or-false false = refl
+    struck-unchanged e = subst (Struck bothWays steps n v old new low high) (ap (either changed) e ∙ either-false changed) (struck-more l h s u)
 
   -- ---- one cell
 
@@ -93,15 +89,11 @@ module _ (bothWays : Bool) (steps : List Step) (n v : ℕ) where
     kept f =
         record {
           same-length = refl;
-          cells = λ y l h. let e : p * n + q ≡ y = omega arith in unpicked _ (falls bothWays steps n v old y) (subst (λ (z : ℕ). So (falls bothWays steps n v old z) → ⊥) e f);
+          cells = λ y l h. let e : p * n + q ≡ y = omega arith in sym (unpicked v _ (falls bothWays steps n v old y) (subst (λ (z : ℕ). So (falls bothWays steps n v old z) → ⊥) e f));
           before = λ y h. refl;
           after = λ y h. refl;
           changes = λ y l h g. let e : y ≡ p * n + q = omega arith in f (subst (λ (z : ℕ). So (falls bothWays steps n v old z)) e g);
         }
-      where
-        unpicked : (x : ℕ) (b : Bool) → (So b → ⊥) → x ≡ pick b v x
-        unpicked x true f = absurd (f refl)
-        unpicked x false f = refl
 
     -- the pair is out already
     pub struck-out : (getD old (p * n + q) 0 ≡ 0 → ⊥) → Struck bothWays steps n v old old (p * n + q) (p * n + q + 1) false
@@ -119,7 +111,7 @@ module _ (bothWays : Bool) (steps : List Step) (n v : ℕ) where
     struck-falls room z e =
         record {
           same-length = length-set old (p * n + q) v;
-          cells = λ y l h. let i : p * n + q ≡ y = omega arith in subst (λ (x : ℕ). getD (set old (p * n + q) v) x 0 ≡ pick (falls bothWays steps n v old x) v (getD old x 0)) i (getD-set-same old (p * n + q) v 0 room ∙ picked _ _ f);
+          cells = λ y l h. let i : p * n + q ≡ y = omega arith in subst (λ (x : ℕ). getD (set old (p * n + q) v) x 0 ≡ pick (falls bothWays steps n v old x) v (getD old x 0)) i (getD-set-same old (p * n + q) v 0 room ∙ sym (picked v _ _ f));
           before = λ y h. getD-set-other old (p * n + q) y v 0 (λ i. omega arith);
           after = λ y h. getD-set-other old (p * n + q) y v 0 (λ i. omega arith);
           changes = (p * n + q, omega arith, omega arith, f);
@@ -128,17 +120,9 @@ module _ (bothWays : Bool) (steps : List Step) (n v : ℕ) where
         f : So (falls bothWays steps n v old (p * n + q))
         f = both-i (eq-eqb _ _ z) (neg-i _ (λ g. never (e ∙ sym (ap (roundOf bothWays steps (held n v old)) (cell-pair n p q q-in)) ∙ g)))
 
-        picked : (x : ℕ) (b : Bool) → So b → v ≡ pick b v x
-        picked x true g = refl
-        picked x false g = never g
-
 -- a round that changes nothing leaves its cells
 pub unmoved : {bothWays : Bool} {steps : List Step} {n v low high : ℕ} {old new : List ℕ} → Struck bothWays steps n v old new low high false → (y : ℕ) → low ≤ y → y < high → getD new y 0 ≡ getD old y 0
-unmoved {v = v} {old = old} s y l h = s .cells y l h ∙ unpicked _ (s .changes y l h)
-  where
-    unpicked : (b : Bool) → (So b → ⊥) → pick b v (getD old y 0) ≡ getD old y 0
-    unpicked true f = absurd (f refl)
-    unpicked false f = refl
+unmoved {v = v} {old = old} s y l h = s .cells y l h ∙ unpicked v (getD old y 0) _ (s .changes y l h)
 
 -- ---- all pairs
 

@@ -18,6 +18,15 @@ pub by-test : {A : Type 0} {x y : A} (P : A → Type 0) (b : Bool) → (b ≡ tr
 by-test P true holds fails = holds refl
 by-test P false holds fails = fails refl
 
+-- where the test holds, the first; where it fails, the second
+pub picked : {A : Type 0} (x y : A) (b : Bool) → So b → pick b x y ≡ x
+picked x y true t = refl
+picked x y false t = never t
+
+pub unpicked : {A : Type 0} (x y : A) (b : Bool) → (So b → ⊥) → pick b x y ≡ y
+unpicked x y true f = absurd (f refl)
+unpicked x y false f = refl
+
 pub tested : (b : Bool) → So b ⊎ (So b → ⊥)
 tested true = inl refl
 tested false = inr never

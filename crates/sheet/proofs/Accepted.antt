@@ -7,12 +7,13 @@ use native.Mathlib.Omega.{arith}
 use borrow.Author.Tests.{le-ltb, lt-leb}
 use lib.ListN.{length, getD, drop, drop-of-length-le}
 use Rattle.refusal.specs.declared.Refusal.{Refusal}
+use Rattle.chart.proofs.Steps.{byte-then}
 use Rattle.sheet.specs.Formula.{Formula, nodes}
 use Rattle.sheet.specs.Layout.{formulaBytes, encode, WellFormed}
 use Rattle.sheet.specs.Reading.{parsed, parse, Sheet, sheet, refused, readNodes, readSheet, sheetRead}
 use Rattle.sheet.specs.declared.Outline.{Outline}
 use Rattle.sheet.specs.declared.SheetRead.the-variants as Read
-use Rattle.sheet.proofs.Found.{FaultBy, nodes-positive, byte-then, formula-found, SheetAt, SheetFound, sheet-found}
+use Rattle.sheet.proofs.Found.{FaultBy, nodes-positive, formula-found, SheetAt, SheetFound, sheet-found}
 use Rattle.sheet.proofs.Written.{formula-written}
 
 -- ---- what the reader's answer says

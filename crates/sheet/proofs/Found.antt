@@ -4,16 +4,15 @@ use mathlib.Core.Path.{_≡_, refl, sym}
 use mathlib.Core.Bool.{true, false}
 use mathlib.Core.Logic.{_⊎_, inl, inr, ⊎-elim}
 use mathlib.Core.List.{List, [], _∷_, _++_, append-assoc}
-use native.Mathlib.Numerals.{add-one}
 use native.Mathlib.Omega.{arith}
 use borrow.Author.Tests.{leb-true, leb-false, ltb-true, ltb-false, eqb-true, eqb-false}
 use lib.Dec.{leb, ltb, eqb}
 use lib.ListN.{length, getD, drop, length-append}
-use lib.Seq.{drop-cons}
 use Rattle.settle.proofs.Test.{by-test}
 use Rattle.refusal.specs.Refusal.{sheetRefusal}
 use Rattle.refusal.specs.declared.Input.the-variants as Input
 use Rattle.refusal.specs.declared.Refusal.{Refusal}
+use Rattle.chart.proofs.Steps.{byte-then}
 use Rattle.sheet.specs.Formula.{Formula, variable, top, bottom, and, or, diamond, box, nodes}
 use Rattle.sheet.specs.Layout.{labelByte, formulaBytes, LabelIn, LabelsIn}
 use Rattle.sheet.specs.Reading.{nodeAt, leafOf, twoOf, labelOf, oneOf, Parsed, parsed, wrong, onParsed, operands, parse}
@@ -129,9 +128,6 @@ nearer : {r : Refusal} {near far : ℕ} → near ≤ far → FaultBy near r → 
 nearer h k = record { of-sheet = k .of-sheet; number-small = k .number-small; place-small = omega arith }
 
 -- the byte at a place, then what follows it
-pub byte-then : (s : List ℕ) (at : ℕ) → at < length s → drop at s ≡ getD s at 0 ∷ drop (at + 1) s
-byte-then s at h = rw (add-one, drop-cons s at 0)
-
 label-in : (m byte : ℕ) → (byte < m) ⊎ (byte ≡ 255) → LabelIn m (labelOf byte)
 unfolding LabelIn
 label-in m byte k = by-test (LabelIn m) (eqb byte 255) (λ h. tt) (λ h. ⊎-elim (λ below. below) (λ e. absurd (eqb-false byte 255 h e)) k)

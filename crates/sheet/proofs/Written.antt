@@ -7,15 +7,15 @@ use mathlib.Core.List.{List, [], _∷_, _++_, append-assoc}
 use native.Mathlib.Omega.{arith}
 use borrow.Author.Tests.{lt-leb, lt-ltb, le-ltb, eq-eqb, ne-eqb}
 use lib.Dec.{ltb, eqb}
-use lib.ListN.{length, getD, drop, length-drop, length-append}
+use lib.ListN.{length, getD, drop, length-append}
 use lib.Seq.{drop-drop, drop-append-seam}
 use Rattle.settle.specs.Test.{pick}
+use Rattle.chart.proofs.Steps.{first-byte}
 use Rattle.sheet.specs.Formula.{Label, only, every, Formula, variable, top, bottom, and, or, diamond, box, nodes}
 use Rattle.sheet.specs.Layout.{labelByte, formulaBytes, LabelIn, LabelsIn}
 use Rattle.sheet.specs.Reading.{nodeAt, leafOf, twoOf, labelOf, oneOf, parsed, parse}
 use Rattle.sheet.specs.declared.Node.{Node}
 use Rattle.sheet.specs.declared.Node.the-variants.{Leaf, Two, One}
-use Rattle.sheet.proofs.Found.{byte-then}
 use Rattle.sheet.proofs.Parsing.{parse-node}
 
 -- ---- a node
@@ -45,13 +45,6 @@ one-at s m at node byte h e k l d b =
     last (inr e) x y = rw (eq-eqb _ _ e) (same (ltb byte m) x)
 
 -- ---- a formula
-
--- the first byte of what stands at a place
-first-byte : (s : List ℕ) (at : ℕ) {x : ℕ} {xs : List ℕ} → drop at s ≡ x ∷ xs → (at < length s) × (getD s at 0 ≡ x) × (drop (at + 1) s ≡ xs)
-first-byte s at {x} {xs} e =
-    let here : at < length s = omega (arith, length-drop at s, ap length e) in
-    let both : getD s at 0 ∷ drop (at + 1) s ≡ x ∷ xs = sym (byte-then s at here) ∙ e in
-    (here, cc, cc)
 
 -- wherever its bytes stand, it is read there, with the place after it and the nodes left
 abbrev pub ReadBack : List ℕ → ℕ → Formula → Type 0

@@ -1,26 +1,12 @@
 -- A number in decimal is what it should be: its digits stand for the number, each is one of '0' to '9', and none leads with a '0' but 0 itself.
-use Prim.Native.Nat.{ℕ, zero, suc, _+_, _-_, _*_, _/_, _%_, _<_, _≤_}
+use Prim.Native.Nat.{ℕ, _+_, _-_, _*_, _/_, _%_, _<_, _≤_}
 use mathlib.Core.Path.{_≡_, refl}
 use mathlib.Core.List.{List, [], _∷_, _++_, List·Memᴰ as Mem, List·Memᴰ·append-cases as append-cases, List·Memᴰ·eq-of-singleton as eq-of-singleton}
 use mathlib.Core.Logic.{⊎-elim}
 use native.Mathlib.Omega.{arith}
-use native.Mathlib.Decide.{decLt}
 use lib.ListN.{getD, List·getD-append}
 use Rattle.text.specs.Text.{decimal, readOn}
-use Rattle.text.proofs.Laws.{decimal-small, decimal-step, width-some}
-
--- what holds of the numbers below 10, and of x where it holds of its tenth, holds of every number
-module _ (P : ℕ → Type 0) (small : (x : ℕ) → x < 10 → P x) (step : (x : ℕ) → 10 ≤ x → P (x / 10) → P x) where
-  by-tenths-below : (k x : ℕ) → x < k → P x
-  by-tenths-below zero x h = absurd (omega arith)
-  by-tenths-below (suc k) x h = go (by-tenths-below k (x / 10)) (decLt x 10)
-    where
-      go : (x / 10 < k → P (x / 10)) → Dec (x < 10) → P x
-      go tenth (yes s) = small x s
-      go tenth (no s) = step x (omega arith) (tenth (omega arith))
-
-  by-tenths : (x : ℕ) → P x
-  by-tenths x = by-tenths-below (suc x) x (omega arith)
+use Rattle.text.proofs.Laws.{by-tenths, decimal-small, decimal-step, width-some}
 
 read-last : (so : ℕ) (s : List ℕ) (digit : ℕ) → readOn so (s ++ (digit ∷ [])) ≡ 10 * readOn so s + (digit - 48)
 unfolding readOn

@@ -12,6 +12,19 @@ use mathlib.Core.Bool.{true, false}
 use borrow.Author.Tests.{lt-ltb, le-ltb, le-leb}
 use Rattle.text.specs.Text.{digits, decimal, line, placed, bufferAfter, placeAfter, PutPromise}
 
+-- what holds of the numbers below 10, and of x where it holds of its tenth, holds of every number
+module _ (P : ℕ → Type 0) (small : (x : ℕ) → x < 10 → P x) (step : (x : ℕ) → 10 ≤ x → P (x / 10) → P x) where
+  by-tenths-below : (k x : ℕ) → x < k → P x
+  by-tenths-below zero x h = absurd (omega arith)
+  by-tenths-below (suc k) x h = go (by-tenths-below k (x / 10)) (decLt x 10)
+    where
+      go : (x / 10 < k → P (x / 10)) → Dec (x < 10) → P x
+      go tenth (yes s) = small x s
+      go tenth (no s) = step x (omega arith) (tenth (omega arith))
+
+  pub by-tenths : (x : ℕ) → P x
+  by-tenths x = by-tenths-below (suc x) x (omega arith)
+
 -- ---- digits
 
 digits-small : (most x : ℕ) → x < 10 → digits (suc most) x ≡ (48 + x) ∷ []
@@ -56,18 +69,8 @@ width-some x = go (decLt x 10)
     go (yes h) = omega (arith, width-small x h)
     go (no h) = let big : 10 ≤ x = omega arith in omega (arith, width-step x big)
 
-width-below : (k x : ℕ) → x < k → length (decimal x) ≤ 1 + x / 10
-width-below zero x h = absurd (omega arith)
-width-below (suc k) x h = go (width-below k (x / 10)) (decLt x 10)
-  where
-    go : (x / 10 < k → length (decimal (x / 10)) ≤ 1 + x / 10 / 10) → Dec (x < 10) → length (decimal x) ≤ 1 + x / 10
-    go less (yes s) = omega (arith, width-small x s)
-    go less (no s) =
-        let big : 10 ≤ x = omega arith in
-        omega (arith, width-step x big, less (omega arith))
-
 pub width-most : (x : ℕ) → length (decimal x) ≤ 1 + x / 10
-width-most x = width-below (suc x) x (omega arith)
+width-most = by-tenths (λ x. length (decimal x) ≤ 1 + x / 10) (λ x h. omega (arith, width-small x h)) (λ x h less. omega (arith, width-step x h, less))
 
 -- ---- texts in a buffer
 
