@@ -1,9 +1,10 @@
 -- Every starred board holds: each is a test that computes, and the test being true is what the board says.
-use Prim.Native.Nat.{ℕ, _+_, _*_}
+use Prim.Native.Nat.{ℕ, suc, _+_, _*_, _^_}
 use mathlib.Core.Path.{_≡_, refl, sym, _∙_}
 use mathlib.Core.Bool.{Bool, true, false, So}
 use mathlib.Core.List.{List, [], _∷_, List·Memᴰ as Mem}
 use mathlib.Core.Logic.{_↔_}
+use native.Mathlib.Omega.{arith}
 use lib.ListN.{length, getD}
 use lib.Dec.{eqb, ltb}
 use borrow.Author.Tests.{eqb-true, ltb-true}
@@ -27,8 +28,8 @@ use Rattle.words.specs.Words.{member}
 use Rattle.nearness.specs.Relation.{matched, simulationRound, bisimulationRound, Near, Simulating}
 use Rattle.nearness.specs.Mark.{bearsMark}
 use Rattle.nearness.proofs.Bisimulation.{simulates-iff}
-use Rattle.nearness.proofs.Rounds.{mark-test}
-use Rattle.starred.specs.Boards.{Board, marks, simulates, satisfies, InChart, Truth, MarksAre, SimulationsAre, SatisfiesAre, Holds, chartE, chartL, chartOne, sheetE, sheetOr, sheetAnd, starred}
+use Rattle.nearness.proofs.Rounds.{near-rounds-le, mark-test}
+use Rattle.starred.specs.Boards.{Board, marks, marksGreatest, simulates, satisfies, InChart, Truth, MarksAre, GreatestRounds, SimulationsAre, SatisfiesAre, Holds, chartE, chartL, chartOne, sheetE, sheetOr, sheetAnd, starred}
 
 -- ---- the tests
 
@@ -45,6 +46,9 @@ marksTest expected rounds c =
     (both (stops (pairs (states c)) (Near (c .steps)) rounds)
     (allOf (λ x. bearsMark (c .steps) rounds x (getD expected (x .0 * states c + x .1) 0)) (pairs (states c))))
 
+marksGreatestTest : List ℕ → ℕ → Chart → Bool
+marksGreatestTest expected rounds c = both (marksTest expected rounds c) (eqb (suc rounds) (states c))
+
 simulatesTest : List ((ℕ × ℕ) × Bool) → Chart → Bool
 simulatesTest [] c = true
 simulatesTest (e ∷ rest) c =
@@ -55,16 +59,19 @@ satisfiesTest : ℕ → ℕ → ℕ → Chart → Sheet → Bool
 satisfiesTest word number rounds c (sheet kind nodes f) =
     both (stops (below (states c)) (applications c kind f) rounds)
     (both (allOf (λ s. same (applications c kind f rounds s) (member word s)) (below (states c)))
-    (eqb (count (member word) (below (states c))) number))
+    (both (ltb word (2 ^ states c))
+    (eqb (count (member word) (below (states c))) number)))
 satisfiesTest word number rounds c (refused r) = false
 
 boardTest : Board → Chart → Bool
 boardTest (marks bytes expected rounds) c = marksTest expected rounds c
+boardTest (marksGreatest bytes expected rounds) c = marksGreatestTest expected rounds c
 boardTest (simulates bytes expected) c = both (stops (pairs (states c)) (Simulating (c .steps)) simulationRounds) (simulatesTest expected c)
 boardTest (satisfies bytes sheetBytes word number rounds) c = satisfiesTest word number rounds c (readSheet sheetBytes (actions c))
 
 chartOf : Board → List ℕ
 chartOf (marks bytes expected rounds) = bytes
+chartOf (marksGreatest bytes expected rounds) = bytes
 chartOf (simulates bytes expected) = bytes
 chartOf (satisfies bytes sheetBytes word number rounds) = bytes
 
@@ -76,7 +83,7 @@ good : Board → Bool
 good b = onChart (chartOf b) (boardTest b) (readChart (chartOf b))
 
 all-good : So (allOf good starred)
-unfolding simulationRounds starred chartE chartL chartOne sheetE sheetOr sheetAnd good chartOf onChart targetsIn boardTest marksTest simulatesTest satisfiesTest both either implies neg same anyOf allOf some each count below product pairs empty full chain settled stops readChart readActions readTransitions judgeCodes judgeTriples bytesAt stepsAt leaves someStep everyStep someLabel everyLabel holds readSheet readNodes parse nodeAt matched simulationRound bisimulationRound bearsMark
+unfolding simulationRounds starred chartE chartL chartOne sheetE sheetOr sheetAnd good chartOf onChart targetsIn boardTest marksTest marksGreatestTest simulatesTest satisfiesTest both either implies neg same anyOf allOf some each count below product pairs empty full chain settled stops readChart readActions readTransitions judgeCodes judgeTriples bytesAt stepsAt leaves someStep everyStep someLabel everyLabel holds readSheet readNodes parse nodeAt matched simulationRound bisimulationRound bearsMark
 all-good = refl
 
 -- ---- a test that is true is what its board says
@@ -84,6 +91,9 @@ all-good = refl
 truth : (b : Bool) {P : Type 0} {a : Bool} → So a ↔ P → a ≡ b → Truth b P
 truth true i e = i .0 e
 truth false i e = λ p. never (sym e ∙ i .1 p)
+
+greatest-allowed : (rounds n : ℕ) → suc rounds ≡ n → GreatestRounds rounds n
+greatest-allowed rounds n e = record { one-less = omega arith; never-more = λ d i k h. omega (arith, near-rounds-le n (d .steps) (omega arith) k h) }
 
 module _ (c : Chart) (targets : TargetsBelow (states c) (c .steps)) where
   marks-hold : (expected : List ℕ) (rounds : ℕ) → So (marksTest expected rounds c) → MarksAre expected rounds c
@@ -97,6 +107,10 @@ module _ (c : Chart) (targets : TargetsBelow (states c) (c .steps)) where
         each-mark = λ p q i j. mark-test (states c) (c .steps) targets p q i j rounds (r .0) _ (all-e _ (b .1) (pairs-i _ p q i j));
         rounds-are = r;
       }
+
+  marks-greatest-hold : (expected : List ℕ) (rounds : ℕ) → So (marksGreatestTest expected rounds c) → MarksAre expected rounds c × GreatestRounds rounds (states c)
+  unfolding marksGreatestTest
+  marks-greatest-hold expected rounds t = let a = both-e _ _ t in (marks-hold expected rounds (a .0), greatest-allowed rounds (states c) (eqb-true _ _ (a .1)))
 
   simulates-hold : So (stops (pairs (states c)) (Simulating (c .steps)) simulationRounds) → (expected : List ((ℕ × ℕ) × Bool)) → So (simulatesTest expected c) → SimulationsAre expected c
   unfolding simulatesTest SimulationsAre
@@ -113,6 +127,7 @@ module _ (c : Chart) (targets : TargetsBelow (states c) (c .steps)) where
   satisfies-hold word number rounds (sheet kind nodes f) t =
       let a = both-e _ _ t in
       let b = both-e _ _ (a .1) in
+      let d = both-e _ _ (b .1) in
       let r = stops-e _ _ rounds (a .0) in (
         kind,
         f,
@@ -120,7 +135,8 @@ module _ (c : Chart) (targets : TargetsBelow (states c) (c .steps)) where
         refl,
         record {
           bits = λ s h. truth (member word s) (satisfies-iff c targets f kind rounds (r .0) s h) (same-e _ _ (all-e _ (b .0) (below-i _ s h)));
-          number-is = eqb-true _ _ (b .1);
+          no-bit-above = ltb-true _ _ (d .0);
+          number-is = eqb-true _ _ (d .1);
           rounds-are = r;
         },
       )
@@ -138,6 +154,7 @@ on-chart bytes test Says f (Read.Refused r) e t = never t
 good-holds : (b : Board) → So (good b) → Holds b
 unfolding good chartOf boardTest Holds
 good-holds (marks bytes expected rounds) t = on-chart bytes _ _ (λ c w. marks-hold c w expected rounds) (readChart bytes) refl t
+good-holds (marksGreatest bytes expected rounds) t = on-chart bytes _ _ (λ c w. marks-greatest-hold c w expected rounds) (readChart bytes) refl t
 good-holds (simulates bytes expected) t =
     on-chart bytes _ _ (λ c w h. let a = both-e _ _ h in simulates-hold c w (a .0) expected (a .1)) (readChart bytes) refl t
 good-holds (satisfies bytes sheetBytes word number rounds) t =

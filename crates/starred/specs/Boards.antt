@@ -1,6 +1,6 @@
 -- Document 01's starred boards: one list of cases, from the boards' own bytes, and what each case says in terms of the definitions.
 -- That all of them hold is `starred-boards-hold` of proofs/Boards.antt.
-use Prim.Native.Nat.{ℕ, _+_, _*_, _<_}
+use Prim.Native.Nat.{ℕ, _+_, _-_, _*_, _^_, _≤_, _<_}
 use mathlib.Core.Path.{_≡_}
 use mathlib.Core.Bool.{Bool, true, false}
 use mathlib.Core.List.{List, [], _∷_}
@@ -23,6 +23,8 @@ use Rattle.nearness.specs.Mark.{Mark}
 pub data Board : Type 0 where
   -- a chart's bytes, the marks of all pairs row by row, and the rounds
   marks : List ℕ → List ℕ → ℕ → Board
+  -- the same, and the rounds are the greatest that the number of states allows
+  marksGreatest : List ℕ → List ℕ → ℕ → Board
   -- a chart's bytes, and pairs (p, q) of which q does, or does not, simulate p
   simulates : List ℕ → List ((ℕ × ℕ) × Bool) → Board
   -- a chart's bytes, a sheet's bytes, the word, the number of states and the rounds
@@ -42,6 +44,11 @@ pub record MarksAre (expected : List ℕ) (rounds : ℕ) (c : Chart) : Type 0 wh
   pub each-mark : (p q : ℕ) → p < states c → q < states c → Mark (c .steps) p q (getD expected (p * states c + q) 0)
   pub rounds-are : Rounds (pairs (states c)) (Near (c .steps)) rounds
 
+-- n - 1, which no chart of n states exceeds
+pub record GreatestRounds (rounds n : ℕ) : Type 0 where
+  pub one-less : rounds ≡ n - 1
+  pub never-more : (d : Chart) → states d ≡ n → (k : ℕ) → Rounds (pairs n) (Near (d .steps)) k → k ≤ rounds
+
 -- each of the listed pairs simulates, or not, as said
 unfoldable pub SimulationsAre : List ((ℕ × ℕ) × Bool) → Chart → Type 0
 SimulationsAre [] c = Unit {0}
@@ -49,11 +56,13 @@ SimulationsAre (e ∷ rest) c = Truth (e .1) (Simulates (c .steps) (e .0 .0) (e 
 
 pub record SatisfiesAre (kind : ℕ) (f : Formula) (word number rounds : ℕ) (c : Chart) : Type 0 where
   pub bits : (s : ℕ) → s < states c → Truth (member word s) (Satisfies c kind f s)
+  pub no-bit-above : word < 2 ^ states c
   pub number-is : count (member word) (below (states c)) ≡ number
   pub rounds-are : SheetRounds c kind f rounds
 
 unfoldable pub Holds : Board → Type 0
 Holds (marks bytes expected rounds) = InChart bytes (MarksAre expected rounds)
+Holds (marksGreatest bytes expected rounds) = InChart bytes (λ c. MarksAre expected rounds c × GreatestRounds rounds (states c))
 Holds (simulates bytes expected) = InChart bytes (SimulationsAre expected)
 Holds (satisfies bytes sheetBytes word number rounds) =
     InChart bytes (λ c. (kind : ℕ) × (f : Formula) × (nodes : ℕ) × (readSheet sheetBytes (actions c) ≡ sheet kind nodes f) × SatisfiesAre kind f word number rounds c)
@@ -114,7 +123,7 @@ starred =
     ∷ ((5, 0), true) ∷ ((5, 1), true) ∷ ((5, 2), true) ∷ ((5, 3), true) ∷ ((5, 4), true) ∷ ((5, 5), true)
     ∷ [])
     ∷ satisfies chartE sheetE 61 5 1
-    ∷ marks chartL
+    ∷ marksGreatest chartL
     (0 ∷ 2 ∷ 1
     ∷ 2 ∷ 0 ∷ 1
     ∷ 1 ∷ 1 ∷ 0
