@@ -1,3 +1,4 @@
 pub mod Relation
 pub mod Bisimulation
 pub mod Mark
+pub mod Sequence

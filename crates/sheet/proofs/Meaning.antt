@@ -1,5 +1,5 @@
 -- What makes each clause of a formula's meaning true, and what follows where it is; a formula's meaning is monotone in the set that stands for the
--- variable; 'every action' is 'any step at all'. Assumes nothing.
+-- variable; 'every action' is 'any step at all'; box holds where there is no such step. Assumes nothing.
 use mathlib.Core.Path.{_≡_, refl}
 use mathlib.Core.Bool.{Bool, true, false, So}
 use mathlib.Core.List.{List, List·Memᴰ as Mem}
@@ -74,6 +74,17 @@ module _ (steps : List Step) (P : ℕ → Bool) (s : ℕ) where
   pub every-every-none : everyLabel 0 steps every P s ≡ true
   unfolding everyLabel below allOf
   every-every-none = refl
+
+-- ---- a state without such steps: box holds there, whatever it asks and whatever stands for the variable
+
+module _ (m : ℕ) (steps : List Step) (f : Formula) (T : ℕ → Bool) (s : ℕ) where
+  pub box-without-steps : (a : ℕ) → ((t : Step) → Mem t steps → t .source ≡ s → t .action ≡ a → ⊥) → So (holds m steps (box (only a) f) T s)
+  unfolding holds everyLabel
+  box-without-steps a none = every-step-i _ _ _ _ (λ t i e g. absurd (none t i e g))
+
+  pub box-at-rest : ((t : Step) → Mem t steps → t .source ≡ s → ⊥) → So (holds m steps (box every f) T s)
+  unfolding holds everyLabel
+  box-at-rest none = all-i _ _ (λ a i. every-step-i _ _ _ _ (λ t j e g. absurd (none t j e)))
 
 -- ---- the set that stands for the variable
 
