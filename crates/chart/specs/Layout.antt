@@ -20,7 +20,7 @@ encode c =
 abbrev pub Earlier : Step → Step → Type 0
 Earlier s u = (s .source < u .source) ⊎ ((s .source ≡ u .source) × ((s .action < u .action) ⊎ ((s .action ≡ u .action) × (s .target < u .target))))
 
--- each stands in R to the one before
+-- each stands in R to the next
 unfoldable pub Rising : {A : Type 0} → (A → A → Type 0) → List A → Type 0
 Rising R [] = Unit {0}
 Rising R (x ∷ []) = Unit {0}

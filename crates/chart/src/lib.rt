@@ -1,3 +1,4 @@
+// Reading a chart: each byte judged as read, the first fault refused.
 use refusal::Refusal;
 ghost use mathlib.Core.Path.{_≡_};
 ghost use Prim.Native.Nat.{_+_, _*_, _≤_, _<_};
@@ -36,6 +37,7 @@ fn code_order(bytes: &[u8], p: usize, i: usize) -> Judged
     Judged::Bad(refusal::of_chart(4, p))
 }
 
+// The m action codes from `at` on, in their order.
 fn judge_codes(bytes: &[u8], at: usize, m: usize) -> Judged
     ensures { λ r. ⌜ r ≡ judgeCodes (now (bytes .entry)) at 0 m ⌝ }
 {
@@ -122,6 +124,7 @@ fn judge_triple(bytes: &[u8], n: usize, m: usize, p: usize, i: usize) -> Judged
     triple_order(bytes, p, i)
 }
 
+// The t triples from `at` on, in their order.
 fn judge_triples(bytes: &[u8], n: usize, m: usize, at: usize, t: usize) -> Judged
     ensures { λ r. ⌜ r ≡ judgeTriples (now (bytes .entry)) n m at 0 t ⌝ }
 {

@@ -1,7 +1,5 @@
-// A relation on a chart's states, held in a lent buffer, and one round of it.
-//
-// The pair (p, q) has the cell p * n + q. A cell that is 0 is in the relation. A pair that falls out in a round gets the byte v, which no cell has
-// when the round begins; so a cell that is 0 or v was in the relation then, and the round reads that relation to its end.
+// One round of a relation held in a lent buffer: the cell p * n + q is 0 where (p, q) is in it. A pair that falls out gets the byte v, which no cell
+// has when the round begins; so a cell that is 0 or v was in the relation then, and the round reads that relation to its end.
 ghost use mathlib.Core.Path.{_≡_};
 ghost use Prim.Native.Nat.{ℕ, _+_, _*_, _≤_, _<_};
 ghost use lib.ListN.{length, getD};

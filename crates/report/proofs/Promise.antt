@@ -153,11 +153,10 @@ module _ (chart old new : List ℕ) (answer : MatrixAnswer) (p : MarksPromise ch
 
 -- ---- on a page
 
-pub made : (chart old : List ℕ) (text : List ℕ) {size : ℕ} {page : List ℕ} → ReportOf chart text → Put old 0 text size page → Made chart size page
+pub made : (chart old : List ℕ) (text : List ℕ) {size : ℕ} {page : List ℕ} → ReportOf chart text → (size ≡ length text) × (page ≡ placed old 0 text) → Made chart size page
 unfolding placed
 made chart old text r p =
-    let e : _ ≡ length text = p .0 ∙ zero-add (length text) in
-    record { text = text; is-report = r; size-is = e; stands = rw (p .1) (take-at text _ _ (sym e)) }
+    record { text = text; is-report = r; size-is = p .0; stands = rw (p .1) (take-at text _ _ (sym (p .0))) }
 
 -- ---- in the lent buffer
 

@@ -89,10 +89,11 @@ fn put_rows(buffer: &mut [u8], at: usize, matrix: &[u8], n: usize) -> usize
     end
 }
 
+// The states, the rounds and the pairs' lines.
 fn put_chart(buffer: &mut [u8], matrix: &[u8], n: usize, rounds: usize) -> usize
     requires { ⌜ (n ≤ 64) × (n * n ≤ length (now matrix)) ⌝ }
     requires { ⌜ length (chartText n rounds (byteAt n (now matrix))) ≤ length (now buffer) ⌝ }
-    ensures { λ r. ⌜ r ≡ 0 + length (chartText n rounds (byteAt n (now (matrix .entry)))) ⌝ }
+    ensures { λ r. ⌜ r ≡ length (chartText n rounds (byteAt n (now (matrix .entry)))) ⌝ }
     ensures { λ r. ⌜ now (buffer .exit) ≡ placed (now (buffer .entry)) 0 (chartText n rounds (byteAt n (now (matrix .entry)))) ⌝ }
 {
     let second = put_count(buffer, 0, b"states ", n);
@@ -100,9 +101,10 @@ fn put_chart(buffer: &mut [u8], matrix: &[u8], n: usize, rounds: usize) -> usize
     put_rows(buffer, third, matrix, n)
 }
 
+// The line of a refusal.
 fn put_refusal(buffer: &mut [u8], r: Refusal) -> usize
     requires { ⌜ length (refusedText r) ≤ length (now buffer) ⌝ }
-    ensures { λ s. ⌜ s ≡ 0 + length (refusedText r) ⌝ }
+    ensures { λ s. ⌜ s ≡ length (refusedText r) ⌝ }
     ensures { λ s. ⌜ now (buffer .exit) ≡ placed (now (buffer .entry)) 0 (refusedText r) ⌝ }
 {
     let input = r.input;

@@ -1,5 +1,5 @@
--- Tests, whose value is true or false, and tests of a list's members. They are shut, so that a statement shows what it is made of;
--- proofs/Test.antt has what makes each true and what follows where it is.
+-- Tests, whose value is true or false, and tests of a list's members. Those that are shut show in a statement as
+-- what they are; proofs/Test.antt has what makes each true and what follows where it is.
 use mathlib.Core.Bool.{Bool, true, false}
 use mathlib.Core.List.{List, [], _∷_}
 use Prim.Native.Nat.{ℕ, zero, suc}

@@ -1,3 +1,4 @@
+// Reading a property sheet: each byte judged as read, the first fault refused.
 use refusal::Refusal;
 ghost use mathlib.Core.Path.{_≡_};
 ghost use Rattle.sheet.specs.Reading.{nodeAt, parse, formulaRead, readNodes, readSheet, sheetRead};
@@ -16,7 +17,7 @@ pub enum FormulaRead {
     Wrong(Refusal),
 }
 
-// The kind of an accepted sheet and how many nodes its formula has: they stand at byte 3.
+// The kind of an accepted sheet and how many nodes its formula has: the nodes stand from byte 3 on.
 pub struct Outline {
     pub kind: u8,
     pub nodes: usize,

@@ -60,6 +60,7 @@ fn first_variable(sheet: &[u8]) -> usize
     at
 }
 
+// The kind that the table has for a name.
 fn kind_written(name: u64) -> u8
     ensures { λ r. ⌜ r ≡ kindWritten name ⌝ }
 {
@@ -75,6 +76,7 @@ fn kind_written(name: u64) -> u8
     1
 }
 
+// The and or the or that the form begins with.
 fn operator(name: u64) -> u8
     ensures { λ r. ⌜ r ≡ operatorOf name ⌝ }
 {
@@ -90,6 +92,7 @@ fn operator(name: u64) -> u8
     4
 }
 
+// How many nodes the form has beside those of F.
 fn more_nodes(name: u64) -> usize
     ensures { λ r. ⌜ r ≡ moreNodes name ⌝ }
 {
@@ -99,6 +102,7 @@ fn more_nodes(name: u64) -> usize
     3
 }
 
+// How many bytes follow F.
 fn operand_size(name: u64) -> usize
     ensures { λ r. ⌜ r ≡ length (operandOf name) ⌝ }
 {
@@ -108,6 +112,7 @@ fn operand_size(name: u64) -> usize
     3
 }
 
+// The second operand of the form, after F.
 fn put_operand(buffer: &mut [u8], at: usize, name: u64) -> usize
     ensures { λ r. ⌜ PutPromise (now (buffer .entry)) at (operandOf name) r (now (buffer .exit)) ⌝ }
 {
@@ -123,7 +128,7 @@ fn put_operand(buffer: &mut [u8], at: usize, name: u64) -> usize
     text::put_bytes(buffer, at, &[6, 255, 0])
 }
 
-// The form's sheet, where it fits.
+// The form's sheet, which has room.
 fn put_form(buffer: &mut [u8], sheet: &[u8], name: u64, total: u8)
     requires { ⌜ 3 ≤ length (now sheet) ⌝ }
     requires { ⌜ length (now sheet) + 1 + length (operandOf name) ≤ length (now buffer) ⌝ }
@@ -160,6 +165,7 @@ fn of_formula(sheet: &[u8], count: usize, name: u64, buffer: &mut [u8]) -> Short
     ShortFormAnswer::Written(size)
 }
 
+// The form of a sheet, or its refusal.
 fn of_sheet(sheet: &[u8], m: usize, name: u64, buffer: &mut [u8]) -> ShortFormAnswer
     ensures { λ r. ⌜ FormPromise (formOfSheet name (readSheet (now (sheet .entry)) m)) (now (buffer .entry)) (now (buffer .exit)) r ⌝ }
 {

@@ -2,6 +2,7 @@
 use Prim.Native.Nat.{ℕ, zero, suc, _+_, _/_, _%_, _<_, _≤_}
 use mathlib.Core.Path.{_≡_, sym, ap, _∙_}
 use mathlib.Core.List.{List, [], _∷_, _++_, append-assoc}
+use native.Mathlib.Nat.{zero-add}
 use native.Mathlib.Omega.{arith}
 use native.Mathlib.Numerals.{add-one}
 use native.Mathlib.Decide.{decLt}
@@ -137,6 +138,10 @@ module _ (b : List ℕ) (at : ℕ) (t : List ℕ) where
   -- any two places, and any two buffers, that the promise allows agree
   pub put-determined : {r r′ : ℕ} {b′ b″ : List ℕ} → PutPromise b at t r b′ → PutPromise b at t r′ b″ → (r ≡ r′) × (b′ ≡ b″)
   put-determined p q = (p .place ∙ sym (q .place), p .bytes ∙ sym (q .bytes))
+
+-- a text at the start ends at its length
+pub put-start : (b t : List ℕ) {r : ℕ} {b′ : List ℕ} → Put b 0 t r b′ → (r ≡ length t) × (b′ ≡ placed b 0 t)
+put-start b t p = (p .0 ∙ zero-add (length t), p .1)
 
 -- the same of a text that is put after another
 pub put-next : (b : List ℕ) (at : ℕ) (s t : List ℕ) {r r′ : ℕ} {b′ b″ : List ℕ} → at + length s + length t ≤ length b

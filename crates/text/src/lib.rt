@@ -30,7 +30,7 @@ fn has_room(size: usize, at: usize, n: usize) -> bool
     n <= size - at
 }
 
-// The digits of x, where they fit.
+// The digits of x, which have room.
 fn put_digits(buffer: &mut [u8], at: usize, x: usize) -> usize
     requires { ⌜ at + length (decimal x) ≤ length (now buffer) ⌝ }
     ensures { λ r. ⌜ r ≡ at + length (decimal x) ⌝ }
@@ -45,6 +45,7 @@ fn put_digits(buffer: &mut [u8], at: usize, x: usize) -> usize
     last + 1
 }
 
+// A number in decimal.
 pub fn put_number(buffer: &mut [u8], at: usize, x: usize) -> usize
     ensures { λ r. ⌜ PutPromise (now (buffer .entry)) at (decimal x) r (now (buffer .exit)) ⌝ }
 {
@@ -54,7 +55,7 @@ pub fn put_number(buffer: &mut [u8], at: usize, x: usize) -> usize
     at
 }
 
-// A number and the byte that follows it, where they fit.
+// A number and the byte that follows it, which have room.
 fn put_followed(buffer: &mut [u8], at: usize, x: usize, byte: u8) -> usize
     requires { ⌜ at + length (decimal x ++ (byte ∷ [])) ≤ length (now buffer) ⌝ }
     ensures { λ r. ⌜ r ≡ at + length (decimal x ++ (byte ∷ [])) ⌝ }
@@ -77,6 +78,7 @@ pub fn put_line(buffer: &mut [u8], at: usize, a: usize, b: usize, c: usize) -> u
     at
 }
 
+// Bytes as they are.
 pub fn put_bytes(buffer: &mut [u8], at: usize, text: &[u8]) -> usize
     ensures { λ r. ⌜ PutPromise (now (buffer .entry)) at (now (text .entry)) r (now (buffer .exit)) ⌝ }
 {
@@ -86,6 +88,7 @@ pub fn put_bytes(buffer: &mut [u8], at: usize, text: &[u8]) -> usize
     at
 }
 
+// Bytes as they are, which have room.
 fn copy(buffer: &mut [u8], at: usize, text: &[u8]) -> usize
     requires { ⌜ at + length (now text) ≤ length (now buffer) ⌝ }
     ensures { λ r. ⌜ r ≡ at + length (now (text .entry)) ⌝ }

@@ -9,7 +9,7 @@ ghost use Prim.Native.Nat.{_≤_};
 ghost use Rattle.viewer.specs.Packing.{packed};
 ghost use Rattle.viewer.specs.Shown.{lent, MarksShown, PropertyShown, ShortFormShown, SimulationShown};
 
-// Places are small: at most 3,172 in a chart and 403 in a sheet.
+// The refusal in one number. Places are small: at most 3,172 in a chart and 403 in a sheet.
 fn pack(refusal: Refusal) -> u64
     requires { ⌜ refusal .place ≤ 3172 ⌝ }
     ensures { λ r. ⌜ r ≡ packed refusal ⌝ }

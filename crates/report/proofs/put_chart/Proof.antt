@@ -5,7 +5,7 @@ use mathlib.Core.List.{[], _∷_, _++_}
 use lib.ListN.{length, length-append}
 use Rattle.relation.specs.Promise.{byteAt}
 use Rattle.text.specs.Text.{line}
-use Rattle.text.proofs.Laws.{put-then}
+use Rattle.text.proofs.Laws.{put-then, put-start}
 use Rattle.report.specs.Text.{statesWord, roundsWord, rowsText, chartText}
 use Rattle.report.proofs.Laws.{chart-length}
 use Rattle.report.proofs.put_chart.Statement.{statement}
@@ -49,7 +49,7 @@ returns c =
     let rows = rowsText (byteAt (a .n) (a .matrix .now)) (a .n) (a .n) in
     let room : 0 + length (first ++ second) ≤ length old = omega (arith, s .pre .1, chart-length (a .n) (a .rounds) (byteAt (a .n) (a .matrix .now)), length-append first second) in
     let two = put-then old 0 first second (omega (arith, length-append first second)) (c .before .before .before .before .before .before .before .before .before .before .before .put-count .ensures) (c .before .before .before .before .before .before .put-count2 .ensures) in
-    put-then old 0 (first ++ second) rows room two (c .before .before .put-rows .ensures)
+    put-start old ((first ++ second) ++ rows) (put-then old 0 (first ++ second) rows room two (c .before .before .put-rows .ensures))
 
 pub put-chart-spec : {M : Type 1} → statement M
 put-chart-spec =

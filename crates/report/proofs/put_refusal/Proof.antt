@@ -5,7 +5,7 @@ use mathlib.Core.List.{[], _∷_, _++_}
 use lib.ListN.{length, length-append}
 use Rattle.refusal.specs.Refusal.{inputNumber}
 use Rattle.text.specs.Text.{line}
-use Rattle.text.proofs.Laws.{put-fits, put-next}
+use Rattle.text.proofs.Laws.{put-fits, put-next, put-start}
 use Rattle.report.specs.Text.{refusedText, refusedWord}
 use Rattle.report.proofs.put_refusal.Statement.{statement}
 use Rattle.report.proofs.put_refusal.Tie as tie
@@ -40,7 +40,7 @@ returns c =
     let row = line (inputNumber (a .r .input) ∷ a .r .number ∷ a .r .place ∷ []) in
     let room : length (refusedWord ++ row) ≤ length (a .buffer .now) = s .pre in
     let one = put-fits (a .buffer .now) 0 refusedWord (omega (arith, length-append refusedWord row)) (c .before .before .before .before .before .before .before .before .put-bytes .ensures) in
-    put-next (a .buffer .now) 0 refusedWord row (omega (arith, length-append refusedWord row)) one (rw (n .ensures) at (c .before .before .put-line .ensures))
+    put-start (a .buffer .now) (refusedWord ++ row) (put-next (a .buffer .now) 0 refusedWord row (omega (arith, length-append refusedWord row)) one (rw (n .ensures) at (c .before .before .put-line .ensures)))
 
 pub put-refusal-spec : {M : Type 1} → statement M
 put-refusal-spec =
