@@ -24,8 +24,8 @@ use Rattle.sheet.specs.Layout as SheetLayout
 use Rattle.sheet.specs.Meaning.{holds}
 use Rattle.sheet.specs.Reading.{Sheet, sheet, refused, readSheet}
 use Rattle.sheet.specs.Solution.{applied, applications}
-use Rattle.sheet.proofs.Accepted.{accepted-exactly as sheet-accepted}
-use Rattle.sheet.proofs.Found.{FaultBy, SheetFound, sheet-found}
+use Rattle.sheet.proofs.Accepted.{accepted-exactly as sheet-accepted, refusal-small}
+use Rattle.sheet.proofs.Found.{number-few}
 use Rattle.sheet.proofs.Meaning.{TargetsBelow}
 use Rattle.sheet.proofs.Solution.{targets-below, sheet-rounds, sheet-rounds-le, satisfies-iff}
 use Rattle.words.specs.Words.{member}
@@ -147,15 +147,11 @@ property-determined chart bytes x y X Y = by-chart (readChart chart) refl
 
 -- ---- the promise never allows 15
 
-fault-small : (s : List ℕ) (m : ℕ) (r : Refusal) → readSheet s m ≡ refused r → r .number ≤ 13
-unfolding SheetFound
-fault-small s m r e = let k : FaultBy 403 r = rw e at (sheet-found s m) in k .number-small
-
 pub never-15 : (chart bytes : List ℕ) (r : Refusal) → PropertyPromise chart bytes (Refused r) → r .number ≡ 15 → ⊥
 never-15 chart bytes r P e = by-chart (readChart chart) refl
   where
     by-sheet : (sh : Shape) → readChart chart ≡ Read.Chart sh → (u : Sheet) → readSheet bytes (sh .m) ≡ u → ⊥
-    by-sheet sh h (refused q) d = let z : r ≡ q = cc (P .sheet-refused sh q h d) in omega (arith, fault-small bytes (sh .m) q d, ap (λ (x : Refusal). x .number) z)
+    by-sheet sh h (refused q) d = let z : r ≡ q = cc (P .sheet-refused sh q h d) in omega (arith, number-few (refusal-small bytes (sh .m) q d), ap (λ (x : Refusal). x .number) z)
     by-sheet sh h (sheet kind nodes f) d =
         let U = P .both-accepted sh kind nodes f h d in
         let n = bytesAt-length chart 1 (sh .n) in

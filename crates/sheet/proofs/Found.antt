@@ -20,11 +20,23 @@ use Rattle.sheet.specs.Reading.{Sheet, sheet, refused, ending, readNodes
 use Rattle.sheet.specs.declared.Node.{Node}
 use Rattle.sheet.specs.declared.Node.the-variants.{Leaf, Two, One, Bad}
 
--- a refusal of the sheet, at most so far on
+-- a refusal of the sheet, at most so far on: its number is 1, or 8 to 13
 pub record FaultBy (far : ℕ) (r : Refusal) : Type 0 where
   pub of-sheet : r .input ≡ Input.Sheet
-  pub number-small : r .number ≤ 13
+  pub number-known : (r .number ≡ 1) ⊎ ((8 ≤ r .number) × (r .number ≤ 13))
   pub place-small : r .place ≤ far
+
+pub number-some : {far : ℕ} {r : Refusal} → FaultBy far r → 1 ≤ r .number
+number-some f = ⊎-elim (λ e. omega arith) (λ h. omega arith) (f .number-known)
+
+pub number-few : {far : ℕ} {r : Refusal} → FaultBy far r → r .number ≤ 13
+number-few f = ⊎-elim (λ e. omega arith) (λ h. omega arith) (f .number-known)
+
+absent : {far : ℕ} (place : ℕ) → place ≤ far → FaultBy far (sheetRefusal 1 place)
+absent place h = record { of-sheet = refl; number-known = inl refl; place-small = h }
+
+fault : {far : ℕ} (number place : ℕ) → 8 ≤ number → number ≤ 13 → place ≤ far → FaultBy far (sheetRefusal number place)
+fault number place some few h = record { of-sheet = refl; number-known = inr (some, few); place-small = h }
 
 -- ---- a node
 
@@ -62,18 +74,15 @@ node-found s m at =
     let found : Node → Type 0 = NodeFound s m at in
     let node : ℕ = getD s at 0 in
     let byte : ℕ = getD s (at + 1) 0 in
-    by-test found (leb (length s) at) (λ h. fault 1 (length s) (omega arith) (omega (arith, leb-true (length s) at h))) (λ h₁.
+    by-test found (leb (length s) at) (λ h. absent (length s) (omega (arith, leb-true (length s) at h))) (λ h₁.
     by-test found (ltb node 3) (λ h. record { here = leb-false _ _ h₁; node-is = refl; known = ltb-true _ _ h; next = refl }) (λ h₂.
     by-test found (ltb node 5) (λ h. record { here = leb-false _ _ h₁; node-is = refl; above = ltb-false _ _ h₂; known = ltb-true _ _ h; next = refl }) (λ h₃.
-    by-test found (ltb 6 node) (λ h. fault 11 at (omega arith) (omega arith)) (λ h₄.
-    by-test found (leb (length s) (at + 1)) (λ h. fault 1 (length s) (omega arith) (omega (arith, leb-true (length s) (at + 1) h))) (λ h₅.
+    by-test found (ltb 6 node) (λ h. fault 11 at (omega arith) (omega arith) (omega arith)) (λ h₄.
+    by-test found (leb (length s) (at + 1)) (λ h. absent (length s) (omega (arith, leb-true (length s) (at + 1) h))) (λ h₅.
     by-test found (ltb byte m) (λ h. one h₃ h₄ h₅ (inl (ltb-true _ _ h))) (λ h₆.
     by-test found (eqb byte 255) (λ h. one h₃ h₄ h₅ (inr (eqb-true _ _ h))) (λ h₇.
-    fault 12 (at + 1) (omega arith) (omega arith))))))))
+    fault 12 (at + 1) (omega arith) (omega arith) (omega arith))))))))
   where
-    fault : (number place : ℕ) → number ≤ 13 → place ≤ at + 1 → FaultBy (at + 1) (sheetRefusal number place)
-    fault number place h k = record { of-sheet = refl; number-small = h; place-small = k }
-
     one : ltb (getD s at 0) 5 ≡ false → ltb 6 (getD s at 0) ≡ false → leb (length s) (at + 1) ≡ false
         → (getD s (at + 1) 0 < m) ⊎ (getD s (at + 1) 0 ≡ 255) → OneAt s m at (getD s at 0) (getD s (at + 1) 0) (at + 2)
     one h₃ h₄ h₅ k = record {
@@ -125,7 +134,7 @@ bytes-few (diamond l f) = omega (arith, bytes-few f)
 bytes-few (box l f) = omega (arith, bytes-few f)
 
 nearer : {r : Refusal} {near far : ℕ} → near ≤ far → FaultBy near r → FaultBy far r
-nearer h k = record { of-sheet = k .of-sheet; number-small = k .number-small; place-small = omega arith }
+nearer h k = record { of-sheet = k .of-sheet; number-known = k .number-known; place-small = omega arith }
 
 -- the byte at a place, then what follows it
 label-in : (m byte : ℕ) → (byte < m) ⊎ (byte ≡ 255) → LabelIn m (labelOf byte)
@@ -242,9 +251,9 @@ module _ (s : List ℕ) (m at left : ℕ) where
 
 parse-found : (fuel : ℕ) (s : List ℕ) (m at left : ℕ) → ParseFound s m at left (parse fuel s m at left)
 unfolding parse ParseFound
-parse-found zero s m at left = record { of-sheet = refl; number-small = omega arith; place-small = omega arith }
+parse-found zero s m at left = fault 13 at (omega arith) (omega arith) (omega arith)
 parse-found (suc deep) s m at left =
-    by-test (ParseFound s m at left) (eqb left 0) (λ h. record { of-sheet = refl; number-small = omega arith; place-small = omega arith }) (λ h.
+    by-test (ParseFound s m at left) (eqb left 0) (λ h. fault 13 at (omega arith) (omega arith) (omega arith)) (λ h.
     operands-found s m at left (omega (arith, eqb-false left 0 h)) (λ after rest. parse deep s m after rest) (parse-found deep s m) (nodeAt s m at) (node-found s m at))
 
 pub formula-found : (fuel : ℕ) (s : List ℕ) (m at left : ℕ) (f : Formula) (after rest : ℕ)
@@ -278,26 +287,23 @@ unfolding readSheet readNodes SheetFound ParseFound
 sheet-found s m =
     let found : Sheet → Type 0 = SheetFound s m in
     let count : ℕ = getD s 2 0 in
-    by-test found (leb (length s) 0) (λ h. fault 1 (length s) (omega arith) (omega (arith, leb-true (length s) 0 h))) (λ h₀.
+    by-test found (leb (length s) 0) (λ h. absent (length s) (omega (arith, leb-true (length s) 0 h))) (λ h₀.
     by-test found (eqb (getD s 0 0) 1) (λ h₁.
-    by-test found (leb (length s) 1) (λ h. fault 1 (length s) (omega arith) (omega (arith, leb-true (length s) 1 h))) (λ h₂.
-    by-test found (ltb 2 (getD s 1 0)) (λ h. fault 9 1 (omega arith) (omega arith)) (λ h₃.
-    by-test found (leb (length s) 2) (λ h. fault 1 (length s) (omega arith) (omega (arith, leb-true (length s) 2 h))) (λ h₄.
-    by-test found (ltb count 1) (λ h. fault 10 2 (omega arith) (omega arith)) (λ h₅.
-    by-test found (ltb 200 count) (λ h. fault 10 2 (omega arith) (omega arith)) (λ h₆.
+    by-test found (leb (length s) 1) (λ h. absent (length s) (omega (arith, leb-true (length s) 1 h))) (λ h₂.
+    by-test found (ltb 2 (getD s 1 0)) (λ h. fault 9 1 (omega arith) (omega arith) (omega arith)) (λ h₃.
+    by-test found (leb (length s) 2) (λ h. absent (length s) (omega (arith, leb-true (length s) 2 h))) (λ h₄.
+    by-test found (ltb count 1) (λ h. fault 10 2 (omega arith) (omega arith) (omega arith)) (λ h₅.
+    by-test found (ltb 200 count) (λ h. fault 10 2 (omega arith) (omega arith) (omega arith)) (λ h₆.
     end h₁ h₃ h₄ h₅ h₆ (parse count s m 3 count) refl (parse-found count s m 3 count)))))))
-    (λ h. fault 9 0 (omega arith) (omega arith)))
+    (λ h. fault 9 0 (omega arith) (omega arith) (omega arith)))
   where
-    fault : (number place : ℕ) → number ≤ 13 → place ≤ 403 → FaultBy 403 (sheetRefusal number place)
-    fault number place h k = record { of-sheet = refl; number-small = h; place-small = k }
-
     end : eqb (getD s 0 0) 1 ≡ true → ltb 2 (getD s 1 0) ≡ false → leb (length s) 2 ≡ false → ltb (getD s 2 0) 1 ≡ false → ltb 200 (getD s 2 0) ≡ false
         → (p : Parsed) → parse (getD s 2 0) s m 3 (getD s 2 0) ≡ p → ParseFound s m 3 (getD s 2 0) p → SheetFound s m (ending s (getD s 1 0) (getD s 2 0) p)
     end h₁ h₃ h₄ h₅ h₆ (wrong r) e k = nearer (omega (arith, ltb-false 200 (getD s 2 0) h₆)) k
     end h₁ h₃ h₄ h₅ h₆ (parsed f after left) e k =
         let few : after ≤ 403 = omega (arith, ltb-false 200 (getD s 2 0) h₆, bytes-few f, k .stands .next, k .counted) in
-        by-test (SheetFound s m) (ltb 0 left) (λ h. fault 13 after (omega arith) few) (λ h₇.
-        by-test (SheetFound s m) (ltb after (length s)) (λ h. fault 8 after (omega arith) few) (λ h₈.
+        by-test (SheetFound s m) (ltb 0 left) (λ h. fault 13 after (omega arith) (omega arith) few) (λ h₇.
+        by-test (SheetFound s m) (ltb after (length s)) (λ h. fault 8 after (omega arith) (omega arith) few) (λ h₈.
         let z : left ≡ 0 = omega (arith, ltb-false 0 left h₇) in
         record {
           begins = leb-false _ _ h₄;

@@ -1,3 +1,4 @@
 pub mod Packing
-pub mod Places
+pub mod Packable
 pub mod Determined
+pub mod Told

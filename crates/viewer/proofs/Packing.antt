@@ -1,18 +1,31 @@
--- The three parts of a packed refusal can be read back. Assumes nothing.
-use Prim.Native.Nat.{_/_, _%_, _≤_, _<_}
+-- The code of a packed refusal is not 0, and its three parts can be read back. Assumes nothing.
+use Prim.Native.Nat.{_≤_}
 use mathlib.Core.Path.{_≡_}
 use native.Mathlib.Omega.{arith}
 use Rattle.refusal.specs.Refusal.{inputNumber}
 use Rattle.refusal.specs.declared.Input.{Input}
 use Rattle.refusal.specs.declared.Input.the-variants as Input
 use Rattle.refusal.specs.declared.Refusal.{Refusal}
-use Rattle.viewer.specs.Packing.{packed}
+use Rattle.viewer.specs.Packing.{packed, Parts}
+
+-- a number of document 01, and a place not past the longest chart
+pub record Packable (r : Refusal) : Type 0 where
+  pub number-some : 1 ≤ r .number
+  pub number-few : r .number ≤ 17
+  pub place-few : r .place ≤ 3172
 
 input-few : (i : Input) → inputNumber i ≤ 2
 input-few Input.Chart = omega arith
 input-few Input.Sheet = omega arith
 input-few Input.BufferOrName = omega arith
 
-pub packing : (r : Refusal) → r .number < 256
-    → (packed r % 256 ≡ r .number) × (packed r / 256 % 256 ≡ inputNumber (r .input)) × (packed r / 65536 ≡ r .place)
-packing r h = (omega (arith, input-few (r .input)), omega (arith, input-few (r .input)), omega (arith, input-few (r .input)))
+module _ (r : Refusal) (fits : Packable r) where
+  pub packed-some : packed r ≡ 0 → ⊥
+  packed-some e = omega (arith, fits .number-some)
+
+  pub packing : Parts (packed r) r
+  packing =
+      let i = input-few (r .input) in
+      let n = fits .number-few in
+      let p = fits .place-few in
+      record { number-is = omega arith; input-is = omega arith; place-is = omega arith }

@@ -1,5 +1,5 @@
 use borrow.Author.Needs.{needs}
-use Rattle.viewer.proofs.Places.{matrix-place}
+use Rattle.viewer.proofs.Packable.{matrix-packable}
 use Rattle.viewer.proofs.rebatelion_marks.Statement.{statement}
 use Rattle.viewer.proofs.rebatelion_marks.Tie as tie
 
@@ -13,7 +13,7 @@ enum-known-answer-2 : tie.Need-enum-known-answer-2
 enum-known-answer-2 c = search needs
 
 pack-requires : tie.Need-pack-requires
-pack-requires c κs = matrix-place _ _ _ _ (rw (c .before .answer2 .given .1) at (c .before .before .before .before .before .marks .ensures))
+pack-requires c κs = matrix-packable _ _ _ _ (rw (c .before .answer2 .given .1) at (c .before .before .before .before .before .marks .ensures)) .place-few
 
 same-length : tie.Need-same-length
 same-length c = search needs

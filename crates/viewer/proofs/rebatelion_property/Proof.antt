@@ -1,5 +1,5 @@
 use borrow.Author.Needs.{needs}
-use Rattle.viewer.proofs.Places.{property-place}
+use Rattle.viewer.proofs.Packable.{property-packable}
 use Rattle.viewer.proofs.rebatelion_property.Statement.{statement}
 use Rattle.viewer.proofs.rebatelion_property.Tie as tie
 
@@ -16,7 +16,7 @@ enum-known-answer-2 : tie.Need-enum-known-answer-2
 enum-known-answer-2 c = search needs
 
 pack-requires : tie.Need-pack-requires
-pack-requires c κs = property-place _ _ _ (rw (c .before .answer2 .given .1) at (c .before .before .before .property .ensures))
+pack-requires c κs = property-packable _ _ _ (rw (c .before .answer2 .given .1) at (c .before .before .before .property .ensures)) .place-few
 
 returns : tie.Need-returns
 returns c =

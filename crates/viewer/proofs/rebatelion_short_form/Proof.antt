@@ -1,5 +1,5 @@
 use borrow.Author.Needs.{needs}
-use Rattle.viewer.proofs.Places.{short-form-place}
+use Rattle.viewer.proofs.Packable.{short-form-packable}
 use Rattle.viewer.proofs.rebatelion_short_form.Statement.{statement}
 use Rattle.viewer.proofs.rebatelion_short_form.Tie as tie
 
@@ -13,7 +13,7 @@ enum-known-answer-2 : tie.Need-enum-known-answer-2
 enum-known-answer-2 c = search needs
 
 pack-requires : tie.Need-pack-requires
-pack-requires c κs = short-form-place _ _ _ _ _ _ (rw (c .before .answer2 .given .1) at (c .before .before .before .before .before .short-form .ensures))
+pack-requires c κs = short-form-packable _ _ _ _ _ _ (rw (c .before .answer2 .given .1) at (c .before .before .before .before .before .short-form .ensures)) .place-few
 
 same-length : tie.Need-same-length
 same-length c = search needs

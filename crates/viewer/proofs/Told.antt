@@ -1,0 +1,93 @@
+-- The code that a call returns is 0 exactly if the question was answered, and else its parts are those of the refusal. Assumes nothing.
+use Prim.Native.Nat.{ℕ}
+use mathlib.Core.Path.{_≡_, refl, sym, subst, subst⁻¹, _∙_}
+use mathlib.Core.Logic.{_⊎_, inl, inr, ⊎-elim}
+use mathlib.Core.List.{List}
+use native.Mathlib.Omega.{arith}
+use Rattle.refusal.specs.declared.Refusal.{Refusal}
+use Rattle.relation.specs.declared.Matrix.{Matrix}
+use Rattle.relation.specs.declared.MatrixAnswer.{MatrixAnswer}
+use Rattle.relation.specs.declared.MatrixAnswer.the-variants as Matrices
+use Rattle.marks.specs.Promise.{MarksPromise}
+use Rattle.marks.proofs.Promise.{marks-determined}
+use Rattle.simulation.specs.Promise.{SimulationPromise}
+use Rattle.simulation.proofs.Promise.{simulation-determined}
+use Rattle.property.specs.Promise.{PropertyPromise}
+use Rattle.property.specs.declared.Solved.{Solved}
+use Rattle.property.specs.declared.PropertyAnswer.{PropertyAnswer}
+use Rattle.property.specs.declared.PropertyAnswer.the-variants as Property
+use Rattle.property.proofs.Promise.{property-determined}
+use Rattle.short_form.specs.Promise.{ShortFormPromise}
+use Rattle.short_form.specs.declared.ShortFormAnswer.{ShortFormAnswer}
+use Rattle.short_form.specs.declared.ShortFormAnswer.the-variants as Form
+use Rattle.short_form.proofs.Promise.{short-form-determined, not-written}
+use Rattle.viewer.specs.Packing.{packed, Parts}
+use Rattle.viewer.specs.Shown.{Lent, matrixCode, MarksShown, SimulationShown, propertyCode, PropertyShown, formCode, ShortFormShown}
+use Rattle.viewer.specs.Told.{Told}
+use Rattle.viewer.proofs.Packing.{Packable, packed-some, packing}
+use Rattle.viewer.proofs.Packable.{matrix-packable, property-packable, short-form-packable}
+
+-- ---- what all four share
+
+-- an answer and its code: given, and 0; or refused, and the refusal packed
+abbrev Coded : {A G : Type 0} → (G → A) → (Refusal → A) → A → ℕ → Type 0
+Coded {A} {G} given refused a code = ((g : G) × (a ≡ given g) × (code ≡ 0)) ⊎ ((r : Refusal) × (a ≡ refused r) × (code ≡ packed r))
+
+-- where the promise leaves no choice and every refusal that it allows can be packed
+told : {A G : Type 0} {given : G → A} {refused : Refusal → A} {Promise : A → Type 0} {code : ℕ}
+    → ((a b : A) → Promise a → Promise b → a ≡ b) → ((r : Refusal) → Promise (refused r) → Packable r) → ((g : G) (r : Refusal) → given g ≡ refused r → ⊥)
+    → (a : A) → Promise a → Coded given refused a code → Told given refused Promise code
+told {A} {G} {given} {refused} {Promise} {code} determined packable apart a p = ⊎-elim
+    (λ x. record { zero-exactly = (λ z. (x .0, subst Promise (x .1) p), λ y. x .2); else-parts = λ some. absurd (some (x .2)) })
+    (λ x. let q : Promise (refused (x .0)) = subst Promise (x .1) p in let fits = packable (x .0) q in record {
+      zero-exactly = (λ z. absurd (packed-some (x .0) fits (sym (x .2) ∙ z)), λ y. absurd (apart (y .0) (x .0) (determined _ _ (y .1) q)));
+      else-parts = λ some. (x .0, q, subst⁻¹ (λ (c : ℕ). Parts c (x .0)) (x .2) (packing (x .0) fits));
+    })
+
+-- ---- marks and simulation
+
+given-or-refused : {code : ℕ} (a : MatrixAnswer) → code ≡ matrixCode a → Coded Matrices.Given Matrices.Refused a code
+given-or-refused (Matrices.Given g) e = inl (g, refl, e)
+given-or-refused (Matrices.Refused r) e = inr (r, refl, e)
+
+not-given : (g : Matrix) (r : Refusal) → Matrices.Given g ≡ Matrices.Refused r → ⊥
+not-given g r e = let z : _≡_ {A = ℕ} 0 1 = cc in omega arith
+
+pub marks-told : (chart old new : List ℕ) (states rounds : Lent) (code : ℕ) → MarksShown chart old new states rounds code
+    → Told Matrices.Given Matrices.Refused (MarksPromise chart old new) code
+marks-told chart old new states rounds code x =
+    told (λ s t p q. marks-determined chart old new new s t p q .0) (matrix-packable chart old new) not-given
+    (x .answer) (x .promised) (given-or-refused (x .answer) (x .code-is))
+
+pub simulation-told : (chart old new : List ℕ) (states rounds : Lent) (code : ℕ) → SimulationShown chart old new states rounds code
+    → Told Matrices.Given Matrices.Refused (SimulationPromise chart old new) code
+simulation-told chart old new states rounds code x =
+    told (λ s t p q. simulation-determined chart old new new s t p q .0) (matrix-packable chart old new) not-given
+    (x .answer) (x .promised) (given-or-refused (x .answer) (x .code-is))
+
+-- ---- property
+
+satisfied-or-refused : {code : ℕ} (a : PropertyAnswer) → code ≡ propertyCode a → Coded Property.Satisfied Property.Refused a code
+satisfied-or-refused (Property.Satisfied solved) e = inl (solved, refl, e)
+satisfied-or-refused (Property.Refused r) e = inr (r, refl, e)
+
+not-satisfied : (solved : Solved) (r : Refusal) → Property.Satisfied solved ≡ Property.Refused r → ⊥
+not-satisfied solved r e = let z : _≡_ {A = ℕ} 0 1 = cc in omega arith
+
+pub property-told : (chart sheet : List ℕ) (word count rounds : Lent) (code : ℕ) → PropertyShown chart sheet word count rounds code
+    → Told Property.Satisfied Property.Refused (PropertyPromise chart sheet) code
+property-told chart sheet word count rounds code x =
+    told (property-determined chart sheet) (property-packable chart sheet) not-satisfied
+    (x .answer) (x .promised) (satisfied-or-refused (x .answer) (x .code-is))
+
+-- ---- short form
+
+written-or-refused : {code : ℕ} (a : ShortFormAnswer) → code ≡ formCode a → Coded Form.Written Form.Refused a code
+written-or-refused (Form.Written length) e = inl (length, refl, e)
+written-or-refused (Form.Refused r) e = inr (r, refl, e)
+
+pub short-form-told : (chart sheet : List ℕ) (name : ℕ) (old new : List ℕ) (written : Lent) (code : ℕ) → ShortFormShown chart sheet name old new written code
+    → Told Form.Written Form.Refused (ShortFormPromise chart sheet name old new) code
+short-form-told chart sheet name old new written code x =
+    told (λ s t p q. short-form-determined chart sheet name old p q .0) (short-form-packable chart sheet name old new) (λ length r e. not-written (sym e))
+    (x .answer) (x .promised) (written-or-refused (x .answer) (x .code-is))
