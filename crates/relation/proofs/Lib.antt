@@ -5,3 +5,4 @@ pub mod Striking
 pub mod Chained
 pub mod Rounding
 pub mod Promise
+pub mod Determined

@@ -1,10 +1,10 @@
 -- The sources of sorted triples, counted one state further at a time.
-use Prim.Native.Nat.{ℕ, _+_, _≤_, _<_}
-use mathlib.Core.Path.{_≡_, ap}
+use Prim.Native.Nat.{ℕ, zero, suc, _+_, _≤_, _<_}
+use mathlib.Core.Path.{_≡_, refl, ap, _∙_}
 use mathlib.Core.List.{List}
 use native.Mathlib.Omega.{arith}
 use native.Mathlib.Decide.{decLe, ℕ-discrete}
-use lib.ListN.{length, getD, set}
+use lib.ListN.{length, getD, set, replicate}
 use lib.Seq.{getD-set-same, getD-set-other}
 use Rattle.chart.specs.Chart.{Step}
 use Rattle.chart.specs.Reading.{stepsAt}
@@ -15,13 +15,19 @@ use Rattle.sheet.proofs.Meaning.{TargetsBelow}
 use Rattle.relation.specs.Sources.{sourceAt, Stands, Past, Sources, Sorted}
 
 module _ (bytes : List ℕ) (at t : ℕ) where
-  pub sources-none : (first : List ℕ) → getD first 0 0 ≡ 0 → Sources bytes at t 0 first
-  sources-none first e =
+  pub sources-none : (entries : ℕ) → Sources bytes at t 0 (replicate entries 0)
+  sources-none entries =
       record {
-        within = λ s l. let z : s ≡ 0 = omega arith in rw z (omega arith);
-        before = λ s i l. let z : s ≡ 0 = omega arith in rw z (λ h. absurd (omega arith));
+        within = λ s l. omega (arith, zeros entries s);
+        before = λ s i l h. absurd (omega (arith, zeros entries s));
         after = λ s i l h k. omega arith;
+        beyond = λ s h. zeros entries s;
       }
+    where
+      zeros : (k s : ℕ) → _≡_ {A = ℕ} (getD (replicate k 0) s 0) 0
+      zeros zero s = refl
+      zeros (suc k) zero = refl
+      zeros (suc k) (suc s) = zeros k s
 
   module _ (s r : ℕ) (first : List ℕ) (w : Sources bytes at t s first) (p : Past bytes at t (getD first s 0) (s + 1) r) (room : s + 1 < length first) where
     same : (k : ℕ) → k ≡ s + 1 → getD (set first (s + 1) r) k 0 ≡ r
@@ -36,6 +42,7 @@ module _ (bytes : List ℕ) (at t : ℕ) where
           within = λ k l. elim (ℕ-discrete k (s + 1)) [ yes e ↦ omega (arith, same k e, p .within) | no f ↦ omega (arith, other k f, w .within k (omega arith)) ];
           before = λ k i l h. elim (ℕ-discrete k (s + 1)) [ yes e ↦ passed k i e (omega (arith, same k e)) | no f ↦ w .before k i (omega arith) (omega (arith, other k f)) ];
           after = λ k i l b h. elim (ℕ-discrete k (s + 1)) [ yes e ↦ omega (arith, p .stopped (omega (arith, same k e)), rise r i (omega (arith, same k e)) b) | no f ↦ w .after k i (omega arith) b (omega (arith, other k f)) ];
+          beyond = λ k h. other k (λ e. omega arith) ∙ w .beyond k (omega arith);
         }
       where
         passed : (k i : ℕ) → k ≡ s + 1 → i < r → sourceAt bytes at i < k

@@ -1,5 +1,6 @@
 -- Where the steps of a state stand among the triples of a chart of n states, which lie from `at` on.
 use Prim.Native.Nat.{ℕ, _+_, _*_, _≤_, _<_}
+use mathlib.Core.Path.{_≡_}
 use mathlib.Core.List.{List}
 use lib.ListN.{length, getD}
 
@@ -27,11 +28,12 @@ pub record Past (bytes : List ℕ) (at t from s r : ℕ) : Type 0 where
   pub passed : (i : ℕ) → from ≤ i → i < r → sourceAt bytes at i < s
   pub stopped : r < t → s ≤ sourceAt bytes at r
 
--- entry s is how many triples have a source below s, so these are the triples before that entry
+-- entry s is how many triples have a source below s, so these are the triples before that entry; the entries after n are 0
 pub record Sources (bytes : List ℕ) (at t n : ℕ) (first : List ℕ) : Type 0 where
   pub within : (s : ℕ) → s ≤ n → getD first s 0 ≤ t
   pub before : (s i : ℕ) → s ≤ n → i < getD first s 0 → sourceAt bytes at i < s
   pub after : (s i : ℕ) → s ≤ n → i < t → getD first s 0 ≤ i → s ≤ sourceAt bytes at i
+  pub beyond : (s : ℕ) → n < s → getD first s 0 ≡ 0
 
 -- the triples that `first` counts stand, with their sources
 pub record Sorted (bytes : List ℕ) (at n : ℕ) (first : List ℕ) : Type 0 where

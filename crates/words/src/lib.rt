@@ -1,11 +1,7 @@
 // Sets of states as words: bit s is set where state s is in the set.
 ghost use mathlib.Core.Path.{_≡_};
-ghost use mathlib.Core.Bool.{Bool};
-ghost use Prim.Native.Nat.{ℕ, _-_, _≤_, _<_, _^_};
 ghost use lib.Bits.{bitOr, bitAnd};
-ghost use Rattle.settle.specs.Test.{count};
-ghost use Rattle.settle.specs.Finite.{below};
-ghost use Rattle.words.specs.Words.{wordOf, member};
+ghost use Rattle.words.specs.Words.{member, With, All, Size};
 
 // Whether state s is in the set. No set has a state from 64 on.
 pub fn has(set: u64, s: u8) -> bool
@@ -19,8 +15,7 @@ pub fn has(set: u64, s: u8) -> bool
 
 // The set with state s. No set takes a state from 64 on.
 pub fn with(set: u64, s: u8) -> u64
-    ensures { λ r. ⌜ (s < 64 → r ≡ bitOr set (2 ^ s)) ⌝ }
-    ensures { λ r. ⌜ (64 ≤ s → r ≡ set) ⌝ }
+    ensures { λ r. ⌜ With set s r ⌝ }
 {
     if s >= 64 {
         return set;
@@ -44,8 +39,7 @@ pub fn meet(a: u64, b: u64) -> u64
 
 // All n states, and all 64 where n is above 64.
 pub fn all(n: usize) -> u64
-    ensures { λ r. ⌜ (n ≤ 64 → r ≡ 2 ^ n - 1) ⌝ }
-    ensures { λ r. ⌜ (64 ≤ n → r ≡ 2 ^ 64 - 1) ⌝ }
+    ensures { λ r. ⌜ All n r ⌝ }
 {
     if n >= 64 {
         return 18446744073709551615;
@@ -55,7 +49,7 @@ pub fn all(n: usize) -> u64
 
 // How many states are in the set.
 pub fn size(set: u64) -> u32
-    ensures { λ r. ⌜ ((n : ℕ) (P : ℕ → Bool) → set ≡ wordOf n P → r ≡ count P (below n)) ⌝ }
+    ensures { λ r. ⌜ Size set r ⌝ }
 {
     u64::count_ones(set)
 }

@@ -15,7 +15,7 @@ abbrev μ-loop : tie.MeasureT-loop
 μ-loop chart at t n first₀ s₀ first s = n - s
 
 loop-holds : tie.Need-loop-holds Inv-loop μ-loop
-loop-holds c = (search needs, refl, sources-none _ _ _ _ refl)
+loop-holds c = (search needs, refl, sources-none _ _ _ 65)
 
 mul-past : tie.Need-mul-past Inv-loop μ-loop
 mul-past c = search needs
