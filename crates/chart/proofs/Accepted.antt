@@ -55,7 +55,7 @@ record Transitions (s : List ℕ) (n m p t : ℕ) : Type 0 where
   steps-rise : (i : ℕ) → i + 1 < t → Earlier (stepAt s (p + 2 + 3 * i)) (stepAt s (p + 2 + 3 * (i + 1)))
 
 -- t triples are there where the last is
-reached : (s : List ℕ) (n m p t : ℕ) → p ≤ length s → ((j : ℕ) → j < t → judgeTriple s n m (p + 3 * j) (0 + j) ≡ Fine)
+pub reached : (s : List ℕ) (n m p t : ℕ) → p ≤ length s → ((j : ℕ) → j < t → judgeTriple s n m (p + 3 * j) (0 + j) ≡ Fine)
     → p + 3 * t ≤ length s
 reached s n m p zero h f = omega arith
 reached s n m p (suc k) h f = omega (arith, triple-fine s n m (p + 3 * k) (0 + k) (f k (omega arith)) .0)

@@ -4,3 +4,4 @@ pub mod Judging
 pub mod Accepted
 pub mod Exactly
 pub mod Refused
+pub mod Beginning

@@ -1,0 +1,186 @@
+-- What the first bytes of a file say of the whole: a refusal other than 1 stands whatever follows, anything after a whole chart is refused 8,
+-- and 3,173 bytes decide.
+use Prim.Native.Nat.{ℕ, zero, suc, _+_, _-_, _*_, _<_, _≤_}
+use mathlib.Core.Path.{_≡_, refl, ap, sym, _∙_}
+use mathlib.Core.Bool.{Bool, true, false}
+use mathlib.Core.List.{List, _∷_, _++_}
+use mathlib.Core.Logic.{_⊎_, inl, inr}
+use native.Mathlib.Omega.{arith}
+use native.Mathlib.Decide.{decLe}
+use lib.ListN.{length, getD, take, drop, length-append, take-append-drop, List·getD-append}
+use lib.Seq.{length-take-le, take-all}
+use lib.Dec.{ltb, leb}
+use borrow.Author.Tests.{leb-false, ltb-true, ltb-false, lt-leb}
+use Rattle.settle.specs.Test.{pick}
+use Rattle.refusal.specs.Refusal.{chartRefusal}
+use Rattle.refusal.specs.declared.Refusal.{Refusal}
+use Rattle.chart.specs.Reading.{andThen, presence, codeOrder, judgeCodes, judgeByte, tripleOrder, judgeTriple, judgeTriples, whereFine, readTransitions, readActions, readChart}
+use Rattle.chart.specs.declared.Judged.{Judged}
+use Rattle.chart.specs.declared.Judged.the-variants.{Fine, Bad}
+use Rattle.chart.specs.declared.Shape.{Shape}
+use Rattle.chart.specs.declared.ChartRead.{ChartRead}
+use Rattle.chart.specs.declared.ChartRead.the-variants as Read
+use Rattle.chart.proofs.Reading.{present, byte-fine}
+use Rattle.chart.proofs.Judging.{triples-fine}
+use Rattle.chart.proofs.Accepted.{accepted, reached}
+use Rattle.chart.proofs.Refused.{refused}
+
+-- ---- judging: a needed byte is absent from s, or s is judged as the whole is
+
+abbrev Kept : List ℕ → Judged → Judged → Type 0
+Kept s a whole = (a ≡ Bad (chartRefusal 1 (length s))) ⊎ (whole ≡ a)
+
+then-kept : (s : List ℕ) (a a′ b b′ : Judged) → Kept s a a′ → (a ≡ Fine → Kept s b b′) → Kept s (andThen a b) (andThen a′ b′)
+then-kept s Fine a′ b b′ (inl e) g = let z : _≡_ {A = ℕ} 0 1 = cc in absurd (omega arith)
+then-kept s Fine a′ b b′ (inr e) g = rw e (g refl)
+then-kept s (Bad r) a′ b b′ (inl e) g = inl e
+then-kept s (Bad r) a′ b b′ (inr e) g = rw e (inr refl)
+
+presence-kept : (s more : List ℕ) (p : ℕ) → Kept s (presence s p) (presence (s ++ more) p)
+presence-kept s more p = go (leb (length s) p) refl
+  where
+    go : (x : Bool) → leb (length s) p ≡ x → Kept s (pick x (Bad (chartRefusal 1 (length s))) Fine) (presence (s ++ more) p)
+    go true e = inl refl
+    go false e = inr (rw (lt-leb (length (s ++ more)) p (omega (arith, length-append s more, leb-false (length s) p e))))
+
+codes-kept : (s more : List ℕ) (p i left : ℕ) → Kept s (judgeCodes s p i left) (judgeCodes (s ++ more) p i left)
+unfolding judgeCodes
+codes-kept s more p i zero = inr refl
+codes-kept s more p i (suc k) =
+    then-kept s (presence s p) _ _ _ (presence-kept s more p) (λ e.
+    then-kept s (codeOrder s p i) _ _ _ (inr (order (present s p e))) (λ _.
+    codes-kept s more (p + 1) (i + 1) k))
+  where
+    order : p < length s → codeOrder (s ++ more) p i ≡ codeOrder s p i
+    order h = rw (List·getD-append s more 0 (p - 1) (omega arith), List·getD-append s more 0 p h)
+
+byte-kept : (s more : List ℕ) (p bound : ℕ) → Kept s (judgeByte s p bound) (judgeByte (s ++ more) p bound)
+byte-kept s more p bound =
+    then-kept s (presence s p) _ _ _ (presence-kept s more p) (λ e. inr (rw (List·getD-append s more 0 p (present s p e))))
+
+triple-kept : (s more : List ℕ) (n m p i : ℕ) → Kept s (judgeTriple s n m p i) (judgeTriple (s ++ more) n m p i)
+triple-kept s more n m p i =
+    then-kept s (judgeByte s p n) _ _ _ (byte-kept s more p n) (λ _.
+    then-kept s (judgeByte s (p + 1) m) _ _ _ (byte-kept s more (p + 1) m) (λ _.
+    then-kept s (judgeByte s (p + 2) n) _ _ _ (byte-kept s more (p + 2) n) (λ e.
+    inr (order (byte-fine s (p + 2) n e .0)))))
+  where
+    order : p + 2 < length s → tripleOrder (s ++ more) p i ≡ tripleOrder s p i
+    order h =
+        rw (
+          List·getD-append s more 0 p (omega arith),
+          List·getD-append s more 0 (p + 1) (omega arith),
+          List·getD-append s more 0 (p + 2) h,
+          List·getD-append s more 0 (p - 3) (omega arith),
+          List·getD-append s more 0 (p - 3 + 1) (omega arith),
+          List·getD-append s more 0 (p - 3 + 2) (omega arith),
+        )
+
+triples-kept : (s more : List ℕ) (n m p i left : ℕ) → Kept s (judgeTriples s n m p i left) (judgeTriples (s ++ more) n m p i left)
+unfolding judgeTriples
+triples-kept s more n m p i zero = inr refl
+triples-kept s more n m p i (suc k) =
+    then-kept s (judgeTriple s n m p i) _ _ _ (triple-kept s more n m p i) (λ _. triples-kept s more n m (p + 3) (i + 1) k)
+
+-- ---- section by section: a needed byte is absent from s, or s is read as the whole is, or s is a whole chart and what follows is refused 8
+
+abbrev Fate : List ℕ → ChartRead → ChartRead → Type 0
+Fate s a whole =
+    (a ≡ Read.Refused (chartRefusal 1 (length s)))
+    ⊎ ((whole ≡ a) ⊎ ((sh : Shape) × (a ≡ Read.Chart sh) × (whole ≡ Read.Refused (chartRefusal 8 (length s)))))
+
+where-kept : (s : List ℕ) (a a′ : Judged) (k k′ : ChartRead) → Kept s a a′ → (a ≡ Fine → Fate s k k′) → Fate s (whereFine a k) (whereFine a′ k′)
+where-kept s Fine a′ k k′ (inl e) g = let z : _≡_ {A = ℕ} 0 1 = cc in absurd (omega arith)
+where-kept s Fine a′ k k′ (inr e) g = rw e (g refl)
+where-kept s (Bad r) a′ k k′ (inl e) g = let z : r ≡ chartRefusal 1 (length s) = cc in inl (ap Read.Refused z)
+where-kept s (Bad r) a′ k k′ (inr e) g = rw e (inr (inl refl))
+
+past-kept : (s : List ℕ) (x : Bool) (r : Refusal) (k k′ : ChartRead) → Fate s k k′ → Fate s (pick x (Read.Refused r) k) (pick x (Read.Refused r) k′)
+past-kept s true r k k′ f = inr (inl refl)
+past-kept s false r k k′ f = f
+
+-- a chart that ends at q
+abbrev ended : List ℕ → ℕ → Shape → ChartRead
+ended s q sh = pick (ltb q (length s)) (Read.Refused (chartRefusal 8 q)) (Read.Chart sh)
+
+end-kept : (s more : List ℕ) (q : ℕ) (sh : Shape) → q ≤ length s → Fate s (ended s q sh) (ended (s ++ more) q sh)
+end-kept s more q sh h = go (ltb q (length s)) refl (ltb q (length (s ++ more))) refl
+  where
+    go : (x : Bool) → ltb q (length s) ≡ x → (y : Bool) → ltb q (length (s ++ more)) ≡ y
+        → Fate s (pick x (Read.Refused (chartRefusal 8 q)) (Read.Chart sh)) (pick y (Read.Refused (chartRefusal 8 q)) (Read.Chart sh))
+    go true e true f = inr (inl refl)
+    go true e false f = absurd (omega (arith, ltb-true q (length s) e, ltb-false q (length (s ++ more)) f, length-append s more))
+    go false e true f =
+        let z : q ≡ length s = omega (arith, ltb-false q (length s) e) in
+        inr (inr (sh, refl, ap (λ (k : ℕ). Read.Refused (chartRefusal 8 k)) z))
+    go false e false f = inr (inl refl)
+
+steps-kept : (s more : List ℕ) (p : ℕ) (sh : Shape) → p ≤ length s
+    → Fate s (whereFine (judgeTriples s (sh .n) (sh .m) p 0 (sh .t)) (ended s (p + 3 * sh .t) sh)) (whereFine (judgeTriples (s ++ more) (sh .n) (sh .m) p 0 (sh .t)) (ended (s ++ more) (p + 3 * sh .t) sh))
+steps-kept s more p sh h =
+    where-kept s (judgeTriples s (sh .n) (sh .m) p 0 (sh .t)) _ _ _ (triples-kept s more (sh .n) (sh .m) p 0 (sh .t)) (λ e.
+    end-kept s more (p + 3 * sh .t) sh (reached s (sh .n) (sh .m) p (sh .t) h (triples-fine s (sh .n) (sh .m) p 0 (sh .t) e)))
+
+transitions-kept : (s more : List ℕ) (n m p : ℕ) → Fate s (readTransitions s n m p) (readTransitions (s ++ more) n m p)
+unfolding readTransitions
+transitions-kept s more n m p =
+    where-kept s (presence s p) _ _ _ (presence-kept s more p) (λ _.
+    where-kept s (presence s (p + 1)) _ _ _ (presence-kept s more (p + 1)) (λ e.
+    let h : p + 1 < length s = present s (p + 1) e in
+    rw (List·getD-append s more 0 p (omega arith), List·getD-append s more 0 (p + 1) h)
+    (past-kept s (ltb 1024 (getD s p 0 + 256 * getD s (p + 1) 0)) _ _ _
+    (steps-kept s more (p + 2) (record { n = n; m = m; t = getD s p 0 + 256 * getD s (p + 1) 0 }) (omega arith)))))
+
+actions-kept : (s more : List ℕ) (n p : ℕ) → Fate s (readActions s n p) (readActions (s ++ more) n p)
+unfolding readActions
+actions-kept s more n p =
+    where-kept s (presence s p) _ _ _ (presence-kept s more p) (λ e.
+    rw (List·getD-append s more 0 p (present s p e))
+    (past-kept s (ltb 32 (getD s p 0)) _ _ _
+    (where-kept s (judgeCodes s (p + 1) 0 (getD s p 0)) _ _ _ (codes-kept s more (p + 1) 0 (getD s p 0)) (λ _.
+    transitions-kept s more n (getD s p 0) (p + 1 + getD s p 0)))))
+
+chart-kept : (s more : List ℕ) → Fate s (readChart s) (readChart (s ++ more))
+unfolding readChart
+chart-kept s more =
+    where-kept s (presence s 0) _ _ _ (presence-kept s more 0) (λ e.
+    rw (List·getD-append s more 0 0 (present s 0 e))
+    (past-kept s (ltb (getD s 0 0) 1) _ _ _
+    (past-kept s (ltb 64 (getD s 0 0)) _ _ _
+    (where-kept s (presence s (getD s 0 0)) _ _ _ (presence-kept s more (getD s 0 0)) (λ _.
+    actions-kept s more (getD s 0 0) (1 + getD s 0 0))))))
+
+-- ---- what follows the first bytes
+
+-- a refusal other than 1 stands, whatever follows
+pub refusal-stands : (s more : List ℕ) (r : Refusal) → readChart s ≡ Read.Refused r → (r .number ≡ 1 → ⊥) → readChart (s ++ more) ≡ Read.Refused r
+refusal-stands s more r e f = go (readChart s) (readChart (s ++ more)) e (chart-kept s more)
+  where
+    go : (a whole : ChartRead) → a ≡ Read.Refused r → Fate s a whole → whole ≡ Read.Refused r
+    go a whole e (inl g) = let z : r ≡ chartRefusal 1 (length s) = cc in absurd (f (ap (λ (x : Refusal). x .number) z))
+    go a whole e (inr (inl g)) = g ∙ e
+    go a whole e (inr (inr (sh, g, h))) = let z : _≡_ {A = ℕ} 0 1 = cc in absurd (omega arith)
+
+-- bytes after a whole chart are refused 8 at the first
+pub whole-then-more : (s : List ℕ) (x : ℕ) (more : List ℕ) (sh : Shape) → readChart s ≡ Read.Chart sh → readChart (s ++ (x ∷ more)) ≡ Read.Refused (chartRefusal 8 (length s))
+whole-then-more s x more sh e = go (readChart s) (readChart (s ++ (x ∷ more))) e refl (chart-kept s (x ∷ more))
+  where
+    go : (a whole : ChartRead) → a ≡ Read.Chart sh → readChart (s ++ (x ∷ more)) ≡ whole → Fate s a whole → whole ≡ Read.Refused (chartRefusal 8 (length s))
+    go a whole i w (inl g) = let z : _≡_ {A = ℕ} 0 1 = cc in absurd (omega arith)
+    go a whole i w (inr (inl g)) =
+        absurd (omega (arith, accepted s sh e .whole, accepted (s ++ (x ∷ more)) sh (w ∙ (g ∙ i)) .whole, length-append s (x ∷ more)))
+    go a whole i w (inr (inr (_, g, h))) = h
+
+-- 3,173 bytes, one more than the longest chart has, decide as the whole would
+pub first-bytes-decide : (s : List ℕ) (k : ℕ) → 3173 ≤ k → readChart (take k s) ≡ readChart s
+first-bytes-decide s k h = elim (decLe (length s) k) [ yes l ↦ ap readChart (take-all k s l) | no l ↦ longer (omega arith) ]
+  where
+    longer : k < length s → readChart (take k s) ≡ readChart s
+    longer l = go (length-take-le k s (omega arith)) (chart-kept (take k s) (drop k s))
+      where
+        go : length (take k s) ≡ k → Fate (take k s) (readChart (take k s)) (readChart (take k s ++ drop k s)) → readChart (take k s) ≡ readChart s
+        go q (inl g) = absurd (omega (arith, refused (take k s) _ g .place-few))
+        go q (inr (inl g)) = sym g ∙ ap readChart (take-append-drop k s)
+        go q (inr (inr (sh, g, f))) =
+            let A = accepted (take k s) sh g in
+            absurd (omega (arith, A .whole, A .states-few, A .actions-few, A .transitions-few))
