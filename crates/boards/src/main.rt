@@ -1,11 +1,25 @@
 // The boards and edges of document 01 that are not starred, run on the proved functions.
 use chart::ChartRead;
 use libc::STDOUT_FILENO;
+use refusal::Refusal;
 use sheet::SheetRead;
 ghost use mathlib.Core.Path.{_≡_};
 ghost use Rattle.chart.specs.Reading.{readChart};
 ghost use Rattle.sheet.specs.Reading.{readSheet, sheetRead};
-ghost use Rattle.boards.specs.Outcome.{chartAccepted, chartRefused, sheetAccepted, sheetRefused};
+ghost use Rattle.boards.specs.Outcome.{refusedAs, chartAccepted, chartRefused, sheetAccepted, sheetRefused};
+
+fn refused_as(given: Refusal, input: u8, number: u8, place: usize) -> bool
+    ensures { λ r. ⌜ r ≡ refusedAs input number place given ⌝ }
+{
+    let at_fault = given.input;
+    if refusal::input_number(at_fault) == input {
+        if given.number == number {
+            return given.place == place;
+        }
+        return false;
+    }
+    false
+}
 
 fn chart_accepted(bytes: &[u8], n: usize, m: usize, t: usize) -> bool
     ensures { λ r. ⌜ r ≡ chartAccepted n m t (readChart (now (bytes .entry))) ⌝ }
@@ -29,12 +43,7 @@ fn chart_refused(bytes: &[u8], number: u8, place: usize) -> bool
 {
     match chart::read_chart(bytes) {
         ChartRead::Chart(_) => false,
-        ChartRead::Refused(r) => {
-            if r.number == number {
-                return r.place == place;
-            }
-            false
-        }
+        ChartRead::Refused(r) => refused_as(r, 0, number, place),
     }
 }
 
@@ -57,12 +66,7 @@ fn sheet_refused(bytes: &[u8], m: usize, number: u8, place: usize) -> bool
 {
     match sheet::read_sheet(bytes, m) {
         SheetRead::Sheet(_) => false,
-        SheetRead::Refused(r) => {
-            if r.number == number {
-                return r.place == place;
-            }
-            false
-        }
+        SheetRead::Refused(r) => refused_as(r, 1, number, place),
     }
 }
 
@@ -181,12 +185,17 @@ fn longest() -> [u8; 3172] {
     with_triples(with_codes(bytes))
 }
 
-fn print(ok: bool) {
+fn say(words: &[u8]) {
+    io::write_all(STDOUT_FILENO, words);
+}
+
+fn print(title: &[u8], ok: bool) {
+    say(title);
     if ok {
-        io::write_all(STDOUT_FILENO, b"as it should be\n");
+        say(b": as it should be\n");
         return;
     }
-    io::write_all(STDOUT_FILENO, b"NOT as it should be\n");
+    say(b": NOT as it should be\n");
 }
 
 // The same bytes and one more.
@@ -200,21 +209,40 @@ fn one_more(chart: [u8; 3172]) -> [u8; 3173] {
     bytes
 }
 
-// What is too long for a proof to compute: t of 1,024 read, 1,025 refused 5, a byte left over refused 8.
+// What is too long for a proof to compute.
 fn longest_charts() {
     let mut bytes = longest();
-    print(chart_accepted(&bytes, 64, 32, 1024));
+    print(b"t of 1,024 read", chart_accepted(&bytes, 64, 32, 1024));
     let longer = one_more(bytes);
-    print(chart_refused(&longer, 8, 3172));
+    print(
+        b"a byte after the longest chart refused 8 at 3172",
+        chart_refused(&longer, 8, 3172),
+    );
     bytes[98] = 1;
-    print(chart_refused(&bytes, 5, 98));
+    print(
+        b"t of 1,025 refused 5 at its first byte",
+        chart_refused(&bytes, 5, 98),
+    );
 }
 
 fn main() {
+    say(b"proved, and run before the line that names it:\n");
     chart_counts();
+    say(
+        b"empty chart refused 1 at 0; n of 64 read, 65 refused 2 at 0; m of 32 read, 33 refused 3; t of 1,025 refused 5\n",
+    );
     chart_items();
+    say(
+        b"codes that do not rise refused 4; triples out of range 6; the same triple twice 7; bytes left over 8\n",
+    );
     sheet_heads();
+    say(b"a sheet's count of equations and kind refused 9, its count of nodes 10\n");
     sheet_nodes();
+    say(
+        b"a node above 6 refused 11, an action byte out of range 12, an absent one 1, bytes left over 8\n",
+    );
     sheet_thirteen();
+    say(b"a formula complete too early or not at all refused 13, before 1, 8 and 11\n");
+    say(b"too long to be computed in a proof, and run:\n");
     longest_charts();
 }

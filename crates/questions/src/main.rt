@@ -114,8 +114,9 @@ fn all_marks(e: &[u8], l: &[u8]) {
         &mut five,
     );
     show_marks(b"\x01\x00\x00\x00\x00", &mut one);
-    say(b"a buffer of one byte less, and of three bytes more\n");
+    say(b"a buffer of one byte less, which stays, and of three bytes more\n");
     show_marks(l, &mut short);
+    show_cells(&short, 8);
     show_marks(l, &mut long);
 }
 
@@ -129,8 +130,9 @@ fn all_simulations(e: &[u8], l: &[u8]) {
     show_simulation(e, &mut six);
     show_simulation(l, &mut three);
     show_simulation(b"\x01\x00\x00\x00\x00", &mut one);
-    say(b"a buffer of one byte less, and of three bytes more\n");
+    say(b"a buffer of one byte less, which stays, and of three bytes more\n");
     show_simulation(l, &mut short);
+    show_cells(&short, 8);
     show_simulation(l, &mut long);
 }
 
@@ -148,17 +150,8 @@ fn deep(nodes: u8) -> [u8; 404] {
     bytes
 }
 
-// The short form of a sheet's first so many bytes, the last of which becomes the formula's end, true.
-fn show_form(l: &[u8], bytes: &mut [u8], length: usize, name: u64) {
-    let mut buffer = [7u8; 404];
-    if length == 0 {
-        return;
-    }
-    if bytes.len() < length {
-        return;
-    }
-    bytes[length - 1] = 1;
-    let answer = short_form::short_form(l, &bytes[..length], name, &mut buffer);
+fn show_form(chart: &[u8], sheet: &[u8], name: u64, buffer: &mut [u8]) {
+    let answer = short_form::short_form(chart, sheet, name, buffer);
     match answer {
         ShortFormAnswer::Written(written) => {
             say(b"written");
@@ -169,18 +162,61 @@ fn show_form(l: &[u8], bytes: &mut [u8], length: usize, name: u64) {
     }
 }
 
-fn forms(l: &[u8]) {
-    say(b"short forms of 197 and 198 nodes with name 0; of 194 and 195 with name 2; with name 4\n");
+// The short form of a sheet's first so many bytes, the last of which becomes the formula's end, true.
+fn show_deep_form(l: &[u8], bytes: &mut [u8], length: usize, name: u64) {
+    let mut buffer = [7u8; 404];
+    if length == 0 {
+        return;
+    }
+    if bytes.len() < length {
+        return;
+    }
+    bytes[length - 1] = 1;
+    show_form(l, &bytes[..length], name, &mut buffer);
+}
+
+fn deep_forms(l: &[u8]) {
+    say(
+        b"short forms of 197 and 198 nodes with name 0; of 194 and 195 with name 2; of 198 with name 4\n",
+    );
     let mut most = deep(197);
-    show_form(l, &mut most, 396, 0);
+    show_deep_form(l, &mut most, 396, 0);
     let mut above = deep(198);
-    show_form(l, &mut above, 398, 0);
+    show_deep_form(l, &mut above, 398, 0);
     let mut path = deep(194);
-    show_form(l, &mut path, 390, 2);
+    show_deep_form(l, &mut path, 390, 2);
     let mut longer = deep(195);
-    show_form(l, &mut longer, 392, 2);
-    let mut unnamed = deep(1);
-    show_form(l, &mut unnamed, 4, 4);
+    show_deep_form(l, &mut longer, 392, 2);
+    let mut unnamed = deep(198);
+    show_deep_form(l, &mut unnamed, 398, 4);
+}
+
+// The short form, and every byte of a buffer of sevens after it.
+fn show_small_form(l: &[u8], sheet: &[u8], name: u64) {
+    let mut buffer = [7u8; 16];
+    show_form(l, sheet, name, &mut buffer);
+    show_cells(&buffer, 16);
+}
+
+fn small_forms(l: &[u8]) {
+    let f = b"\x01\x02\x02\x05\x00\x01";
+    say(
+        b"F is diamond 0 true: always, possible, safe path, eventually, each with the bytes of its buffer; name 4\n",
+    );
+    show_small_form(l, f, 0);
+    show_small_form(l, f, 1);
+    show_small_form(l, f, 2);
+    show_small_form(l, f, 3);
+    show_small_form(l, f, 4);
+    say(b"F is and (diamond 0 true) X: always; name 4\n");
+    show_small_form(l, b"\x01\x00\x04\x03\x05\x00\x01\x00", 0);
+    show_small_form(l, b"\x01\x00\x04\x03\x05\x00\x01\x00", 4);
+    let mut enough = [7u8; 14];
+    let mut short = [7u8; 13];
+    say(b"safe path of diamond 0 true: a buffer of its 14 bytes, and of one byte less\n");
+    show_form(l, f, 2, &mut enough);
+    show_form(l, f, 2, &mut short);
+    show_cells(&short, 13);
 }
 
 fn main() {
@@ -190,5 +226,6 @@ fn main() {
     properties(e, l);
     all_marks(e, l);
     all_simulations(e, l);
-    forms(l);
+    deep_forms(l);
+    small_forms(l);
 }

@@ -1,5 +1,4 @@
 use borrow.Author.Needs.{needs}
-use borrow.Author.Tests.{eq-eqb, ne-eqb}
 use Rattle.boards.proofs.chart_refused.Statement.{statement}
 use Rattle.boards.proofs.chart_refused.Tie as tie
 
@@ -12,15 +11,16 @@ enum-told c = search needs
 enum-known-r : tie.Need-enum-known-r
 enum-known-r c = search needs
 
+refused-as-requires : tie.Need-refused-as-requires
+refused-as-requires c κs = search needs
+
 returns : tie.Need-returns
-returns c = rw (← c .before .before .before .before .before .before .read-chart .ensures, c .before .before .before .before .r .given .1, eq-eqb _ _ (c .before .if1 .taken))
+returns c = rw (← c .before .before .read-chart .ensures, c .enum-told .given .1)
 
 returns-2 : tie.Need-returns-2
-returns-2 c = rw (← c .before .before .read-chart .ensures, c .enum-told .given .1)
-
-returns-3 : tie.Need-returns-3
-returns-3 c = rw (← c .before .before .before .before .before .read-chart .ensures, c .before .before .before .r .given .1, ne-eqb _ _ (c .if1 .left))
+returns-2 c = rw (← c .before .before .before .before .read-chart .ensures, c .before .before .r .given .1) (c .refused-as .ensures)
 
 pub chart-refused-spec : {M : Type 1} → statement M
 chart-refused-spec =
-    tie.close (tie.spec read-chart-requires enum-told enum-known-r returns returns-2 returns-3)
+    tie.close
+    (tie.spec read-chart-requires enum-told enum-known-r refused-as-requires returns returns-2)
