@@ -222,3 +222,11 @@ sources-rise s sh A i j h =
 -- every step leads from a state to a state
 pub each-step : (s : List ℕ) (sh : Shape) → readChart s ≡ Read.Chart sh → (u : Step) → Mem u (chartIn s sh .steps) → StepIn (sh .n) (sh .m) u
 each-step s sh e u i = let q = step-member s (4 + sh .n + sh .m) (sh .t) i in rw (q .2) (accepted s sh e .steps-in (q .0) (q .1))
+
+-- ---- an answer is one of the two, and of one shape
+
+pub never-both : {X : Type 0} {x : ChartRead} {sh : Shape} {r : Refusal} → x ≡ Read.Chart sh → x ≡ Read.Refused r → X
+never-both e h = let z : _≡_ {A = ℕ} 0 1 = cc in absurd (omega arith)
+
+pub same-shape : {x : ChartRead} {a b : Shape} → x ≡ Read.Chart a → x ≡ Read.Chart b → a ≡ b
+same-shape e h = cc

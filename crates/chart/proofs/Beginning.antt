@@ -171,6 +171,15 @@ whole-then-more s x more sh e = go (readChart s) (readChart (s ++ (x ∷ more)))
         absurd (omega (arith, accepted s sh e .whole, accepted (s ++ (x ∷ more)) sh (w ∙ (g ∙ i)) .whole, length-append s (x ∷ more)))
     go a whole i w (inr (inr (_, g, h))) = h
 
+-- a chart that breaks off is refused 1
+pub beginning-refused : (s : List ℕ) (x : ℕ) (more : List ℕ) (sh : Shape) → readChart (s ++ (x ∷ more)) ≡ Read.Chart sh → readChart s ≡ Read.Refused (chartRefusal 1 (length s))
+beginning-refused s x more sh e = go (readChart s) refl (chart-kept s (x ∷ more))
+  where
+    go : (a : ChartRead) → readChart s ≡ a → Fate s a (readChart (s ++ (x ∷ more))) → a ≡ Read.Refused (chartRefusal 1 (length s))
+    go a i (inl g) = g
+    go a i (inr (inl g)) = absurd (omega (arith, accepted s sh (i ∙ sym g ∙ e) .whole, accepted (s ++ (x ∷ more)) sh e .whole, length-append s (x ∷ more)))
+    go a i (inr (inr (_, g, h))) = let z : _≡_ {A = ℕ} 0 1 = cc in absurd (omega arith)
+
 -- 3,173 bytes, one more than the longest chart has, decide as the whole would
 pub first-bytes-decide : (s : List ℕ) (k : ℕ) → 3173 ≤ k → readChart (take k s) ≡ readChart s
 first-bytes-decide s k h = elim (decLe (length s) k) [ yes l ↦ ap readChart (take-all k s l) | no l ↦ longer (omega arith) ]

@@ -9,10 +9,9 @@ use Rattle.chart.specs.Chart.{Step, Chart, states, actions, transitions}
 use Rattle.chart.specs.Layout.{stepBytes, encode, Earlier, Rising, Bytes, WellFormed}
 use Rattle.chart.specs.Reading.{bytesAt, stepAt, stepsAt, chartIn, readChart, shapeOf, Reads}
 use Rattle.chart.specs.declared.Shape.{Shape}
-use Rattle.chart.specs.declared.ChartRead.{ChartRead}
 use Rattle.chart.specs.declared.ChartRead.the-variants as Read
 use Rattle.chart.proofs.Steps.{byte-then, first-byte, bytesAt-length, bytesAt-getD, byte-member, stepsAt-length, stepsAt-getD, step-member, member-step}
-use Rattle.chart.proofs.Accepted.{Accepted, accepted, accepts}
+use Rattle.chart.proofs.Accepted.{Accepted, accepted, accepts, same-shape}
 
 -- ---- rising, by numbers
 
@@ -243,8 +242,5 @@ pub same-bytes : (c d : Chart) → encode c ≡ encode d → WellFormed c → We
 same-bytes c d e F G =
     let r = encoded-reads (encode c) c refl F in
     let q = encoded-reads (encode c) d e G in
-    let z : shapeOf c ≡ shapeOf d = same (r .0) (q .0) in
+    let z : shapeOf c ≡ shapeOf d = same-shape (r .0) (q .0) in
     sym (r .1) ∙ ap (chartIn (encode c)) z ∙ q .1
-  where
-    same : {x : ChartRead} {a b : Shape} → x ≡ Read.Chart a → x ≡ Read.Chart b → a ≡ b
-    same p q = cc

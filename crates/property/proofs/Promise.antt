@@ -15,7 +15,7 @@ use Rattle.chart.specs.Reading.{chartIn, readChart, shapeOf, Reads}
 use Rattle.chart.specs.declared.Shape.{Shape}
 use Rattle.chart.specs.declared.ChartRead.{ChartRead}
 use Rattle.chart.specs.declared.ChartRead.the-variants as Read
-use Rattle.chart.proofs.Accepted.{accepted, each-step}
+use Rattle.chart.proofs.Accepted.{accepted, each-step, never-both}
 use Rattle.chart.proofs.Exactly.{accepted-exactly as chart-accepted}
 use Rattle.chart.proofs.Refused.{refused as chart-refused-placed}
 use Rattle.chart.proofs.Steps.{bytesAt-length}
@@ -65,12 +65,6 @@ answers s sh kind f r e R =
     answered (chartIn s sh) (rw n (λ u i. each-step s sh e u i .target-in)) kind f r (rw (n, m) R)
 
 -- ---- the three cases
-
-never-both : {A : Type 0} {x : ChartRead} {sh : Shape} {r : Refusal} → x ≡ Read.Chart sh → x ≡ Read.Refused r → A
-never-both e h = let z : _≡_ {A = ℕ} 0 1 = cc in absurd (omega arith)
-
-same-shape : {x : ChartRead} {sh sh′ : Shape} → x ≡ Read.Chart sh → x ≡ Read.Chart sh′ → sh ≡ sh′
-same-shape e h = cc
 
 module _ (chart bytes : List ℕ) where
   pub promise-chart-refused : (r : Refusal) → readChart chart ≡ Read.Refused r → PropertyPromise chart bytes (Refused r)

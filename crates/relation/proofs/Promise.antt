@@ -16,7 +16,7 @@ use Rattle.chart.specs.Reading.{chartIn, readChart}
 use Rattle.chart.specs.declared.Shape.{Shape}
 use Rattle.chart.specs.declared.ChartRead.{ChartRead}
 use Rattle.chart.specs.declared.ChartRead.the-variants as Read
-use Rattle.chart.proofs.Accepted.{accepted}
+use Rattle.chart.proofs.Accepted.{accepted, each-step, never-both, same-shape}
 use Rattle.chart.proofs.Refused.{refused}
 use Rattle.sheet.proofs.Meaning.{TargetsBelow}
 use Rattle.nearness.specs.Relation.{Relation}
@@ -26,18 +26,9 @@ use Rattle.relation.specs.declared.Matrix.{Matrix}
 use Rattle.relation.specs.declared.MatrixAnswer.{MatrixAnswer}
 use Rattle.relation.specs.declared.MatrixAnswer.the-variants as Answer
 use Rattle.relation.proofs.Cells.{row-in, column-in, pair-cell}
-use Rattle.relation.proofs.Ranges.{stands-chart, targets-below}
 
--- what a chart's bytes cannot be read as
-module _ (chart : List ℕ) (sh : Shape) (read : readChart chart ≡ Read.Chart sh) where
-  clash : {X : Type 0} (r : Refusal) → readChart chart ≡ Read.Refused r → X
-  clash r e = let z : _≡_ {A = ℕ} 0 1 = cc in absurd (omega arith)
-
-  same-shape : (u : Shape) → readChart chart ≡ Read.Chart u → sh ≡ u
-  same-shape u f = cc
-
-  targets : TargetsBelow (sh .n) (chartIn chart sh .steps)
-  targets = targets-below chart _ (sh .t) (sh .n) (stands-chart chart sh (accepted chart sh read))
+targets : (chart : List ℕ) (sh : Shape) → readChart chart ≡ Read.Chart sh → TargetsBelow (sh .n) (chartIn chart sh .steps)
+targets chart sh read u i = each-step chart sh read u i .target-in
 
 -- every chart's relations settle, in 4,096 rounds at most
 abbrev pub Settles : Relations → Type 0
@@ -54,8 +45,8 @@ module _ {Says : Saying} {R : Relations} where
   promise-chart chart old r e =
       record {
         chart-refused = λ s f. let z : r ≡ s = cc in ap Answer.Refused z;
-        then-too-short = λ sh f. clash chart sh f r e;
-        then-answered = λ sh f. clash chart sh f r e;
+        then-too-short = λ sh f. never-both f e;
+        then-answered = λ sh f. never-both f e;
         refusal-leaves-all = λ s f. refl;
         later-bytes-stay = λ sh f y h. refl;
         length-stays = refl;
@@ -65,9 +56,9 @@ module _ {Says : Saying} {R : Relations} where
     pub promise-short : (old : List ℕ) (r : Refusal) → length old < sh .n * sh .n → r ≡ lentRefusal 14 → MatrixPromise Says R chart old old (Answer.Refused r)
     promise-short old r h e =
         record {
-          chart-refused = λ s f. clash chart sh read s f;
+          chart-refused = λ s f. never-both read f;
           then-too-short = λ u f l. ap Answer.Refused e;
-          then-answered = λ u f l. (let i : sh .n * sh .n ≡ u .n * u .n = ap (λ (x : Shape). x .n * x .n) (same-shape chart sh read u f) in absurd (omega arith));
+          then-answered = λ u f l. (let i : sh .n * sh .n ≡ u .n * u .n = ap (λ (x : Shape). x .n * x .n) (same-shape read f) in absurd (omega arith));
           refusal-leaves-all = λ s f. refl;
           later-bytes-stay = λ u f y l. refl;
           length-stays = refl;
@@ -80,11 +71,11 @@ module _ {Says : Saying} {R : Relations} where
     promise-worked old new (Answer.Refused r) h w says = absurd w
     promise-worked old new (Answer.Given given) h w says =
         record {
-          chart-refused = λ r f. clash chart sh read r f;
-          then-too-short = λ u f l. (let e : sh .n * sh .n ≡ u .n * u .n = ap (λ (x : Shape). x .n * x .n) (same-shape chart sh read u f) in absurd (omega arith));
-          then-answered = λ u f l. subst (λ (x : Shape). Answers Says R chart x new (Answer.Given given)) (same-shape chart sh read u f) (says given (accepted chart sh read .states-some) (targets chart sh read) w);
+          chart-refused = λ r f. never-both read f;
+          then-too-short = λ u f l. (let e : sh .n * sh .n ≡ u .n * u .n = ap (λ (x : Shape). x .n * x .n) (same-shape read f) in absurd (omega arith));
+          then-answered = λ u f l. subst (λ (x : Shape). Answers Says R chart x new (Answer.Given given)) (same-shape read f) (says given (accepted chart sh read .states-some) (targets chart sh read) w);
           refusal-leaves-all = λ r f. (let z : _≡_ {A = ℕ} 0 1 = cc in absurd (omega arith));
-          later-bytes-stay = λ u f y l. w .done .after y (subst⁻¹ (λ (x : Shape). x .n * x .n ≤ y) (same-shape chart sh read u f) l);
+          later-bytes-stay = λ u f y l. w .done .after y (subst⁻¹ (λ (x : Shape). x .n * x .n ≤ y) (same-shape read f) l);
           length-stays = w .done .same-length;
         }
 
