@@ -1,6 +1,8 @@
 -- The promise: what the rounds find is what it says, it allows one answer, and never 15.
 use Prim.Native.Nat.{ℕ, _+_, _<_, _≤_}
-use mathlib.Core.Path.{_≡_, refl, ap, sym, _∙_}
+use mathlib.Core.Path.{_≡_, refl, ap, sym, subst, _∙_}
+use mathlib.Core.Bool.{Bool, true, false, So}
+use mathlib.Core.Logic.{_↔_}
 use mathlib.Core.List.{List}
 use native.Mathlib.Omega.{arith}
 use Rattle.settle.specs.Test.{count}
@@ -15,7 +17,7 @@ use Rattle.chart.specs.Reading.{chartIn, readChart, shapeOf, Reads}
 use Rattle.chart.specs.declared.Shape.{Shape}
 use Rattle.chart.specs.declared.ChartRead.{ChartRead}
 use Rattle.chart.specs.declared.ChartRead.the-variants as Read
-use Rattle.chart.proofs.Accepted.{accepted, each-step, never-both}
+use Rattle.chart.proofs.Accepted.{accepted, each-step, never-both, same-shape}
 use Rattle.chart.proofs.Exactly.{accepted-exactly as chart-accepted}
 use Rattle.chart.proofs.Refused.{refused as chart-refused-placed}
 use Rattle.chart.proofs.Steps.{bytesAt-length}
@@ -23,7 +25,7 @@ use Rattle.sheet.specs.Formula.{Formula, nodes}
 use Rattle.sheet.specs.Layout as SheetLayout
 use Rattle.sheet.specs.Meaning.{holds}
 use Rattle.sheet.specs.Reading.{Sheet, sheet, refused, readSheet}
-use Rattle.sheet.specs.Solution.{applied, applications}
+use Rattle.sheet.specs.Solution.{asksLeast, applied, SolutionBy, applications}
 use Rattle.sheet.proofs.Accepted.{accepted-exactly as sheet-accepted, refusal-small}
 use Rattle.sheet.proofs.Found.{number-few}
 use Rattle.sheet.proofs.Meaning.{TargetsBelow}
@@ -138,6 +140,33 @@ property-determined chart bytes x y X Y = by-chart (readChart chart) refl
     by-chart : (u : ChartRead) → readChart chart ≡ u → x ≡ y
     by-chart (Read.Refused r) e = X .chart-refused r e ∙ sym (Y .chart-refused r e)
     by-chart (Read.Chart sh) e = by-sheet sh e (readSheet bytes (sh .m)) refl
+
+-- ---- codes are for display only: of two charts with the same steps the same is promised
+
+module _ (c d : Chart) (n : states d ≡ states c) (m : actions d ≡ actions c) (steps : d .steps ≡ c .steps) (kind : ℕ) (f : Formula) where
+  same-solutions : (least : Bool) (s : ℕ) → SolutionBy least c f s ≡ SolutionBy least d f s
+  same-solutions true s = rw (n, m, steps)
+  same-solutions false s = rw (n, m, steps)
+
+  same-answers : (x : PropertyAnswer) → Answers c kind f x → Answers d kind f x
+  same-answers (Satisfied a) S = record {
+    bit-exactly = λ s h. subst (λ (X : Type 0). So (member (a .word) s) ↔ X) (same-solutions (asksLeast kind) s) (S .bit-exactly s (rw n at h));
+    no-bit-above = rw n (S .no-bit-above);
+    count-is = rw n (S .count-is);
+    rounds-least = rw (n, m, steps) (S .rounds-least);
+    rounds-few = rw n (S .rounds-few);
+  }
+  same-answers (Refused r) U = record { refusal-is = U .refusal-is; none-settled = rw (n, m, steps) (U .none-settled) }
+
+pub codes-not-asked : (a b bytes : List ℕ) (sh : Shape) → readChart a ≡ Read.Chart sh → readChart b ≡ Read.Chart sh → chartIn a sh .steps ≡ chartIn b sh .steps
+    → (answer : PropertyAnswer) → PropertyPromise a bytes answer → PropertyPromise b bytes answer
+codes-not-asked a b bytes sh read also same answer P = record {
+  chart-refused = λ r h. never-both also h;
+  sheet-refused = λ u r h k. P .sheet-refused sh r read (rw (same-shape also h) k);
+  both-accepted = λ u kind nodes f h k. rw (← same-shape also h)
+      (same-answers (chartIn a sh) (chartIn b sh) (bytesAt-length b 1 (sh .n) ∙ sym (bytesAt-length a 1 (sh .n)))
+      (bytesAt-length b (2 + sh .n) (sh .m) ∙ sym (bytesAt-length a (2 + sh .n) (sh .m))) (sym same) kind f answer (P .both-accepted sh kind nodes f read (rw (same-shape also h) k)));
+}
 
 -- ---- the promise never allows 15
 

@@ -79,6 +79,25 @@ module _ {Says : Saying} {R : Relations} where
           length-stays = w .done .same-length;
         }
 
+  -- ---- codes are for display only: of two charts with the same steps the same is promised
+
+  pub codes-not-asked : (a b : List ℕ) (sh : Shape) → readChart a ≡ Read.Chart sh → readChart b ≡ Read.Chart sh → chartIn a sh .steps ≡ chartIn b sh .steps
+      → {old new : List ℕ} {answer : MatrixAnswer} → MatrixPromise Says R a old new answer → MatrixPromise Says R b old new answer
+  codes-not-asked a b sh read also same {old} {new} {answer} w =
+      record {
+        chart-refused = λ r f. never-both also f;
+        then-too-short = λ u f l. w .then-too-short sh read (subst⁻¹ (λ (x : Shape). length old < x .n * x .n) (same-shape also f) l);
+        then-answered = λ u f l. subst (λ (x : Shape). Answers Says R b x new answer) (same-shape also f)
+            (go answer (w .then-answered sh read (subst⁻¹ (λ (x : Shape). x .n * x .n ≤ length old) (same-shape also f) l)));
+        refusal-leaves-all = w .refusal-leaves-all;
+        later-bytes-stay = λ u f y l. w .later-bytes-stay sh read y (subst⁻¹ (λ (x : Shape). x .n * x .n ≤ y) (same-shape also f) l);
+        length-stays = w .length-stays;
+      }
+    where
+      go : (given : MatrixAnswer) → Answers Says R a sh new given → Answers Says R b sh new given
+      go (Answer.Given g) h = subst (λ (steps : List Step). Says (sh .n) (sh .m) steps new g) same h
+      go (Answer.Refused r) h = (h .0, subst (λ (steps : List Step). (k : ℕ) → k ≤ 4096 → Settled (pairs (sh .n)) (R steps) k → ⊥) same (h .1))
+
   -- ---- where the rounds settle, there is no refusal of an accepted chart whose buffer has room
 
   module _ (settles : Settles R) where
