@@ -1,14 +1,15 @@
 -- A chart is accepted exactly if the bytes are its encoding and it is well formed.
 use Prim.Native.Nat.{ℕ, zero, suc, _+_, _*_, _%_, _/_, _<_, _≤_}
-use mathlib.Core.Path.{_≡_, refl, ap, sym, _∙_}
-use mathlib.Core.List.{List, [], _∷_, _++_, append-nil, List·Memᴰ·head, List·Memᴰ·tail}
-use mathlib.Core.Logic.{_↔_}
+use mathlib.Core.Path.{_≡_, refl, ap, sym, subst⁻¹, _∙_}
+use mathlib.Core.List.{List, [], _∷_, _++_, append-nil, List·Memᴰ as Mem, List·Memᴰ·head, List·Memᴰ·tail, List·Memᴰ·not-nil, List·Memᴰ·cases-cons}
+use mathlib.Core.Logic.{_⊎_, inl, inr, _↔_}
 use native.Mathlib.Omega.{arith}
 use lib.ListN.{length, getD, drop, length-append, drop-of-length-le}
 use Rattle.chart.specs.Chart.{Step, Chart, states, actions, transitions}
 use Rattle.chart.specs.Layout.{stepBytes, encode, Earlier, Rising, Bytes, WellFormed}
-use Rattle.chart.specs.Reading.{bytesAt, stepAt, stepsAt, chartIn, readChart, shapeOf, Reads}
+use Rattle.chart.specs.Reading.{bytesAt, stepAt, stepsAt, chartIn, readChart, shapeOf, Reads, AcceptedExactly}
 use Rattle.chart.specs.declared.Shape.{Shape}
+use Rattle.chart.specs.declared.ChartRead.{ChartRead}
 use Rattle.chart.specs.declared.ChartRead.the-variants as Read
 use Rattle.chart.proofs.Steps.{byte-then, first-byte, bytesAt-length, bytesAt-getD, byte-member, stepsAt-length, stepsAt-getD, step-member, member-step}
 use Rattle.chart.proofs.Accepted.{Accepted, accepted, accepts, same-shape}
@@ -236,6 +237,18 @@ accepted-exactly s B c = (
       (rw (r .1) at (f .1), rw (r .1) at (f .0))),
   λ f. encoded-reads s c (f .0) (f .1),
 )
+
+known-bytes : (s : List ℕ) → ((i : ℕ) → getD s i 0 < 256) → Bytes s
+known-bytes [] h x m = absurd (List·Memᴰ·not-nil m)
+known-bytes (y ∷ s) h x m = go (List·Memᴰ·cases-cons m) (known-bytes s (λ i. h (suc i)) x)
+  where
+    go : (x ≡ y) ⊎ Mem x s → (Mem x s → x < 256) → x < 256
+    go (inl e) rest = omega (arith, h 0)
+    go (inr m) rest = rest m
+
+-- what the reader promises of its bytes, which are bytes
+pub read-exactly : (s : List ℕ) → ((i : ℕ) → getD s i 0 < 256) → {answer : ChartRead} → answer ≡ readChart s → (answer ≡ readChart s) × AcceptedExactly s answer
+read-exactly s known e = (e, subst⁻¹ (AcceptedExactly s) e (accepted-exactly s (known-bytes s known)))
 
 -- no two charts have the same bytes
 pub same-bytes : (c d : Chart) → encode c ≡ encode d → WellFormed c → WellFormed d → c ≡ d

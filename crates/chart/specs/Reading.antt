@@ -4,11 +4,13 @@ use Prim.Native.Nat.{ℕ, zero, suc, _+_, _-_, _*_}
 use mathlib.Core.Path.{_≡_}
 use mathlib.Core.Bool.{Bool, true, false}
 use mathlib.Core.List.{List, [], _∷_}
+use mathlib.Core.Logic.{_↔_}
 use lib.ListN.{length, getD}
 use lib.Dec.{ltb, leb, eqb}
 use Rattle.settle.specs.Test.{pick}
 use Rattle.refusal.specs.Refusal.{chartRefusal}
 use Rattle.chart.specs.Chart.{Step, Chart, states, actions, transitions}
+use Rattle.chart.specs.Layout.{encode, WellFormed}
 use Rattle.chart.specs.declared.Shape.{Shape}
 use Rattle.chart.specs.declared.ChartRead.{ChartRead}
 use Rattle.chart.specs.declared.ChartRead.the-variants as Read
@@ -125,3 +127,7 @@ shapeOf c = record { n = states c; m = actions c; t = transitions c }
 -- the reader accepts these bytes, and the chart in them is c
 abbrev pub Reads : List ℕ → Chart → Type 0
 Reads s c = (readChart s ≡ Read.Chart (shapeOf c)) × (chartIn s (shapeOf c) ≡ c)
+
+-- an answer accepts these bytes, as the chart c, exactly if they are c's layout and c is well formed
+abbrev pub AcceptedExactly : List ℕ → ChartRead → Type 0
+AcceptedExactly s answer = (c : Chart) → ((answer ≡ Read.Chart (shapeOf c)) × (chartIn s (shapeOf c) ≡ c)) ↔ ((s ≡ encode c) × WellFormed c)

@@ -3,7 +3,7 @@ use refusal::Refusal;
 ghost use mathlib.Core.Path.{_≡_};
 ghost use Prim.Native.Nat.{_+_, _*_, _≤_, _<_};
 ghost use lib.ListN.{length};
-ghost use Rattle.chart.specs.Reading.{stepAt, codeOrder, judgeCodes, judgeByte, earlier, tripleOrder, judgeTriple, judgeTriples, readTransitions, readActions, readChart};
+ghost use Rattle.chart.specs.Reading.{stepAt, codeOrder, judgeCodes, judgeByte, earlier, tripleOrder, judgeTriple, judgeTriples, readTransitions, readActions, readChart, AcceptedExactly};
 
 // The counts n, m and t of an accepted chart: the rest of it stays in the bytes.
 pub struct Shape {
@@ -189,6 +189,7 @@ fn read_actions(bytes: &[u8], n: usize, p: usize) -> ChartRead
 // The chart in the bytes, or the first fault.
 pub fn read_chart(bytes: &[u8]) -> ChartRead
     ensures { λ r. ⌜ r ≡ readChart (now (bytes .entry)) ⌝ }
+    ensures { λ r. ⌜ AcceptedExactly (now (bytes .entry)) r ⌝ }
 {
     if bytes.len() <= 0 {
         return ChartRead::Refused(refusal::of_chart(1, bytes.len()));

@@ -10,8 +10,9 @@ use Rattle.refusal.specs.declared.Refusal.{Refusal}
 use Rattle.chart.proofs.Steps.{byte-then}
 use Rattle.sheet.specs.Formula.{Formula, nodes}
 use Rattle.sheet.specs.Layout.{formulaBytes, encode, WellFormed}
-use Rattle.sheet.specs.Reading.{parsed, parse, Sheet, sheet, refused, readNodes, readSheet, sheetRead}
+use Rattle.sheet.specs.Reading.{parsed, parse, Sheet, sheet, refused, readNodes, readSheet, sheetRead, AcceptedExactly}
 use Rattle.sheet.specs.declared.Outline.{Outline}
+use Rattle.sheet.specs.declared.SheetRead.{SheetRead}
 use Rattle.sheet.specs.declared.SheetRead.the-variants as Read
 use Rattle.sheet.proofs.Found.{FaultBy, nodes-positive, formula-found, SheetAt, SheetFound, sheet-found}
 use Rattle.sheet.proofs.Written.{formula-written}
@@ -118,6 +119,20 @@ accepted-exactly s m few kind f = (
 
 pub read-count : (s : List ℕ) (m kind count : ℕ) (f : Formula) → readSheet s m ≡ sheet kind count f → count ≡ nodes f
 read-count s m kind count f e = layout-read s m kind count f e .2
+
+-- what the reader promises of its bytes
+pub read-exactly : (s : List ℕ) (m : ℕ) {answer : SheetRead} → answer ≡ sheetRead (readSheet s m) → (answer ≡ sheetRead (readSheet s m)) × AcceptedExactly s m answer
+read-exactly s m {answer} e = (e, λ few o. (forth o, back few o))
+  where
+    forth : (o : Outline) → answer ≡ Read.Sheet o → (f : Formula) × (nodes f ≡ o .nodes) × (s ≡ encode (o .kind) f) × WellFormed m (o .kind) f
+    forth o h =
+        let F = formed s m o (sym e ∙ h) in
+        let q = layout-read s m (o .kind) (o .nodes) (F .formula) (F .read-is) in
+        (F .formula, sym (q .2), q .0, q .1)
+
+    back : m ≤ 32 → (o : Outline) → (f : Formula) × (nodes f ≡ o .nodes) × (s ≡ encode (o .kind) f) × WellFormed m (o .kind) f → answer ≡ Read.Sheet o
+    back few o (f, count, h, w) =
+        e ∙ ap sheetRead (accepted-exactly s m few (o .kind) f .1 (h, w)) ∙ ap (λ (k : ℕ). Read.Sheet (record { kind = o .kind; nodes = k })) count
 
 -- no two well-formed sheets have the same bytes
 pub same-bytes : (m : ℕ) → m ≤ 32 → (k l : ℕ) (f g : Formula) → WellFormed m k f → WellFormed m l g → encode k f ≡ encode l g → (k ≡ l) × (f ≡ g)

@@ -1,17 +1,21 @@
 -- Reading a property sheet in document 01's order, each byte judged as read, 13 before 1, 8 and 11 at the same place. The number and the place
 -- of every refusal stand here; that a sheet is accepted exactly if it follows the layout is the law `accepted-exactly` of proofs/Accepted.antt.
-use Prim.Native.Nat.{ℕ, zero, suc, _+_, _-_}
+use Prim.Native.Nat.{ℕ, zero, suc, _+_, _-_, _≤_}
+use mathlib.Core.Path.{_≡_}
 use mathlib.Core.List.{List}
+use mathlib.Core.Logic.{_↔_}
 use lib.ListN.{length, getD}
 use lib.Dec.{ltb, leb, eqb}
 use Rattle.settle.specs.Test.{pick}
 use Rattle.refusal.specs.Refusal.{sheetRefusal}
 use Rattle.refusal.specs.declared.Refusal.{Refusal}
-use Rattle.sheet.specs.Formula.{Label, only, every, Formula, variable, top, bottom, and, or, diamond, box}
+use Rattle.sheet.specs.Formula.{Label, only, every, Formula, variable, top, bottom, and, or, diamond, box, nodes}
+use Rattle.sheet.specs.Layout.{encode, WellFormed}
 use Rattle.sheet.specs.declared.Node.{Node}
 use Rattle.sheet.specs.declared.Node.the-variants.{Leaf, Two, One, Bad}
 use Rattle.sheet.specs.declared.FormulaRead.{FormulaRead}
 use Rattle.sheet.specs.declared.FormulaRead.the-variants as Told
+use Rattle.sheet.specs.declared.Outline.{Outline}
 use Rattle.sheet.specs.declared.SheetRead.{SheetRead}
 use Rattle.sheet.specs.declared.SheetRead.the-variants as Read
 
@@ -108,3 +112,7 @@ formulaRead (wrong r) = Told.Wrong r
 abbrev pub sheetRead : Sheet → SheetRead
 sheetRead (sheet kind count f) = Read.Sheet (record { kind = kind; nodes = count })
 sheetRead (refused r) = Read.Refused r
+
+-- for a chart of at most 32 actions, an answer accepts these bytes exactly if they are the layout of a well-formed sheet of that kind and so many nodes
+abbrev pub AcceptedExactly : List ℕ → ℕ → SheetRead → Type 0
+AcceptedExactly s m answer = m ≤ 32 → (o : Outline) → (answer ≡ Read.Sheet o) ↔ ((f : Formula) × (nodes f ≡ o .nodes) × (s ≡ encode (o .kind) f) × WellFormed m (o .kind) f)

@@ -1,7 +1,7 @@
 // Reading a property sheet: each byte judged as read, the first fault refused.
 use refusal::Refusal;
 ghost use mathlib.Core.Path.{_≡_};
-ghost use Rattle.sheet.specs.Reading.{nodeAt, parse, formulaRead, readNodes, readSheet, sheetRead};
+ghost use Rattle.sheet.specs.Reading.{nodeAt, parse, formulaRead, readNodes, readSheet, sheetRead, AcceptedExactly};
 
 // A node at a place, with its action byte where it has one and the place after it.
 pub enum Node {
@@ -107,6 +107,7 @@ fn read_nodes(bytes: &[u8], m: usize, kind: u8) -> SheetRead
 // The sheet in the bytes, for a chart of m actions, or the first fault.
 pub fn read_sheet(bytes: &[u8], m: usize) -> SheetRead
     ensures { λ r. ⌜ r ≡ sheetRead (readSheet (now (bytes .entry)) m) ⌝ }
+    ensures { λ r. ⌜ AcceptedExactly (now (bytes .entry)) m r ⌝ }
 {
     if bytes.len() <= 0 {
         return SheetRead::Refused(refusal::of_sheet(1, bytes.len()));

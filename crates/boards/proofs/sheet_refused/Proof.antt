@@ -15,10 +15,10 @@ refused-as-requires : tie.Need-refused-as-requires
 refused-as-requires c κs = search needs
 
 returns : tie.Need-returns
-returns c = rw (← c .before .before .read-sheet .ensures, c .enum-told .given .1)
+returns c = rw (← c .before .before .read-sheet .ensures .0, c .enum-told .given .1)
 
 returns-2 : tie.Need-returns-2
-returns-2 c = rw (← c .before .before .before .before .read-sheet .ensures, c .before .before .r .given .1) (c .refused-as .ensures)
+returns-2 c = rw (← c .before .before .before .before .read-sheet .ensures .0, c .before .before .r .given .1) (c .refused-as .ensures)
 
 pub sheet-refused-spec : {M : Type 1} → statement M
 sheet-refused-spec =

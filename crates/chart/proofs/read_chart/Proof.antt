@@ -2,6 +2,7 @@ use borrow.Author.Needs.{needs}
 use native.Mathlib.Omega.{arith}
 use borrow.Author.Tests.{le-leb, lt-leb, le-ltb, lt-ltb}
 use Rattle.chart.specs.Reading.{readChart}
+use Rattle.chart.proofs.Exactly.{read-exactly}
 use Rattle.chart.proofs.read_chart.Statement.{statement}
 use Rattle.chart.proofs.read_chart.Tie as tie
 
@@ -10,7 +11,7 @@ of-chart-requires c κs = search needs
 
 returns : tie.Need-returns
 unfolding readChart
-returns c = rw (le-leb _ _ (c .before .if1 .taken), c .of-chart .ensures)
+returns c = read-exactly (c .before .before .before .args .bytes .now) (λ i. omega (arith, c .before .before .shared-slice-known .given i)) (rw (le-leb _ _ (c .before .if1 .taken), c .of-chart .ensures))
 
 shared-slice-read-n : tie.Need-shared-slice-read-n
 shared-slice-read-n c = search needs
@@ -23,21 +24,21 @@ of-chart-requires-2 c κs = search needs
 
 returns-2 : tie.Need-returns-2
 unfolding readChart
-returns-2 c = rw (lt-leb _ _ (c .before .before .before .if1 .left), lt-ltb _ _ (c .before .if2 .taken), c .of-chart2 .ensures)
+returns-2 c = read-exactly (c .before .before .before .before .before .args .bytes .now) (λ i. omega (arith, c .before .before .before .before .shared-slice-known .given i)) (rw (lt-leb _ _ (c .before .before .before .if1 .left), lt-ltb _ _ (c .before .if2 .taken), c .of-chart2 .ensures))
 
 of-chart-requires-3 : tie.Need-of-chart-requires-3
 of-chart-requires-3 c κs = search needs
 
 returns-3 : tie.Need-returns-3
 unfolding readChart
-returns-3 c = rw (lt-leb _ _ (c .before .before .before .before .if1 .left), le-ltb _ _ (c .before .before .if2 .left), lt-ltb _ _ (c .before .if3 .taken), c .of-chart3 .ensures)
+returns-3 c = read-exactly (c .before .before .before .before .before .before .args .bytes .now) (λ i. omega (arith, c .before .before .before .before .before .shared-slice-known .given i)) (rw (lt-leb _ _ (c .before .before .before .before .if1 .left), le-ltb _ _ (c .before .before .if2 .left), lt-ltb _ _ (c .before .if3 .taken), c .of-chart3 .ensures))
 
 of-chart-requires-4 : tie.Need-of-chart-requires-4
 of-chart-requires-4 c κs = search needs
 
 returns-4 : tie.Need-returns-4
 unfolding readChart
-returns-4 c = rw (lt-leb _ _ (c .before .before .before .before .before .if1 .left), le-ltb _ _ (c .before .before .before .if2 .left), le-ltb _ _ (c .before .before .if3 .left), le-leb _ _ (c .before .if4 .taken), c .of-chart4 .ensures)
+returns-4 c = read-exactly (c .before .before .before .before .before .before .before .args .bytes .now) (λ i. omega (arith, c .before .before .before .before .before .before .shared-slice-known .given i)) (rw (lt-leb _ _ (c .before .before .before .before .before .if1 .left), le-ltb _ _ (c .before .before .before .if2 .left), le-ltb _ _ (c .before .before .if3 .left), le-leb _ _ (c .before .if4 .taken), c .of-chart4 .ensures))
 
 add-read-actions : tie.Need-add-read-actions
 add-read-actions c = search needs
@@ -47,7 +48,7 @@ read-actions-requires c κs = search needs
 
 returns-5 : tie.Need-returns-5
 unfolding readChart
-returns-5 c = rw (lt-leb _ _ (c .before .before .before .before .before .if1 .left), le-ltb _ _ (c .before .before .before .if2 .left), le-ltb _ _ (c .before .before .if3 .left), lt-leb _ _ (c .before .if4 .left)) (c .read-actions .ensures)
+returns-5 c = read-exactly (c .before .before .before .before .before .before .before .args .bytes .now) (λ i. omega (arith, c .before .before .before .before .before .before .shared-slice-known .given i)) (rw (lt-leb _ _ (c .before .before .before .before .before .if1 .left), le-ltb _ _ (c .before .before .before .if2 .left), le-ltb _ _ (c .before .before .if3 .left), lt-leb _ _ (c .before .if4 .left)) (c .read-actions .ensures))
 
 pub read-chart-spec : {M : Type 1} → statement M
 read-chart-spec =

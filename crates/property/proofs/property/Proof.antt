@@ -13,7 +13,7 @@ enum-known-r : tie.Need-enum-known-r
 enum-known-r c = search needs
 
 returns : tie.Need-returns
-returns c = promise-chart-refused _ _ _ (sym (c .before .before .before .read-chart .ensures) ∙ c .before .r .given .1)
+returns c = promise-chart-refused _ _ _ (sym (c .before .before .before .read-chart .ensures .0) ∙ c .before .r .given .1)
 
 enum-known-s : tie.Need-enum-known-s
 enum-known-s c = search needs
@@ -25,7 +25,7 @@ enum-known-r-2 : tie.Need-enum-known-r-2
 enum-known-r-2 c = search needs
 
 returns-2 : tie.Need-returns-2
-returns-2 c = promise-sheet-refused _ _ (c .before .before .before .before .before .s .given .0 .0) _ (sym (c .before .before .before .before .before .before .before .read-chart .ensures) ∙ c .before .before .before .before .before .s .given .1) (refused-exactly _ _ _ .0 (sym (c .before .before .before .read-sheet .ensures) ∙ c .before .r2 .given .1))
+returns-2 c = promise-sheet-refused _ _ (c .before .before .before .before .before .s .given .0 .0) _ (sym (c .before .before .before .before .before .before .before .read-chart .ensures .0) ∙ c .before .before .before .before .before .s .given .1) (refused-exactly _ _ _ .0 (sym (c .before .before .before .read-sheet .ensures .0) ∙ c .before .r2 .given .1))
 
 enum-known-o : tie.Need-enum-known-o
 enum-known-o c = search needs
@@ -34,15 +34,15 @@ solve-requires : tie.Need-solve-requires
 solve-requires c κs =
     let start = c .before .before .before .before .before .before .before .before .before .before in
     let sh = c .before .before .before .before .before .s .given .0 .0 in
-    let F = formed (start .args .sheet .now) (sh .m) (c .before .o .given .0 .0) (sym (c .before .before .before .read-sheet .ensures) ∙ c .before .o .given .1) in
-    (sym (c .before .before .before .before .before .before .before .read-chart .ensures) ∙ c .before .before .before .before .before .s .given .1, rw (F .parsed-is) tt)
+    let F = formed (start .args .sheet .now) (sh .m) (c .before .o .given .0 .0) (sym (c .before .before .before .read-sheet .ensures .0) ∙ c .before .o .given .1) in
+    (sym (c .before .before .before .before .before .before .before .read-chart .ensures .0) ∙ c .before .before .before .before .before .s .given .1, rw (F .parsed-is) tt)
 
 returns-3 : tie.Need-returns-3
 returns-3 c =
     let start = c .before .before .before .before .before .before .before .before .before .before .before in
     let sh = c .before .before .before .before .before .before .s .given .0 .0 in
-    let read : ReadAs (start .args .chart .now) sh = sym (c .before .before .before .before .before .before .before .before .read-chart .ensures) ∙ c .before .before .before .before .before .before .s .given .1 in
-    let F = formed (start .args .sheet .now) (sh .m) (c .before .before .o .given .0 .0) (sym (c .before .before .before .before .read-sheet .ensures) ∙ c .before .before .o .given .1) in
+    let read : ReadAs (start .args .chart .now) sh = sym (c .before .before .before .before .before .before .before .before .read-chart .ensures .0) ∙ c .before .before .before .before .before .before .s .given .1 in
+    let F = formed (start .args .sheet .now) (sh .m) (c .before .before .o .given .0 .0) (sym (c .before .before .before .before .read-sheet .ensures .0) ∙ c .before .before .o .given .1) in
     promise-accepted _ _ sh _ _ (F .formula) (c .solve .result) read (F .read-is)
     (answers (start .args .chart .now) sh (c .before .before .o .given .0 .0 .kind) (F .formula) (c .solve .result) read (rw (F .parsed-is) at (c .solve .ensures)))
 

@@ -20,14 +20,14 @@ enum-known-outline c = search needs
 of-formula-requires : tie.Need-of-formula-requires
 of-formula-requires c κs =
     let a = c .before .before .before .before .before .before .before .args in
-    let q = formed (a .sheet .now) (a .m) (c .before .before .outline .given .0 .0) (sym (c .before .before .before .before .read-sheet .ensures) ∙ c .before .before .outline .given .1) in
+    let q = formed (a .sheet .now) (a .m) (c .before .before .outline .given .0 .0) (sym (c .before .before .before .before .read-sheet .ensures .0) ∙ c .before .before .outline .given .1) in
     let l = layout-read (a .sheet .now) (a .m) _ _ (q .formula) (q .read-is) in
     (q .nodes-few, omega (arith, sheet-length (a .sheet .now) _ (q .formula) (l .0)))
 
 returns : tie.Need-returns
 returns c =
     let a = c .before .before .before .before .before .before .args in
-    let q = refused-exactly (a .sheet .now) (a .m) (c .before .r .given .0 .0) .0 (sym (c .before .before .before .read-sheet .ensures) ∙ c .before .r .given .1) in
+    let q = refused-exactly (a .sheet .now) (a .m) (c .before .r .given .0 .0) .0 (sym (c .before .before .before .read-sheet .ensures .0) ∙ c .before .r .given .1) in
     promise-wrong (a .buffer .now) (ap (formOfSheet (a .name)) q) refl
 
 same-length : tie.Need-same-length
@@ -36,7 +36,7 @@ same-length c = search needs
 returns-2 : tie.Need-returns-2
 returns-2 c =
     let a = c .before .before .before .before .before .before .before .before .before .before .args in
-    let q = formed (a .sheet .now) (a .m) (c .before .before .before .before .before .outline .given .0 .0) (sym (c .before .before .before .before .before .before .before .read-sheet .ensures) ∙ c .before .before .before .before .before .outline .given .1) in
+    let q = formed (a .sheet .now) (a .m) (c .before .before .before .before .before .outline .given .0 .0) (sym (c .before .before .before .before .before .before .before .read-sheet .ensures .0) ∙ c .before .before .before .before .before .outline .given .1) in
     let l = layout-read (a .sheet .now) (a .m) _ _ (q .formula) (q .read-is) in
     rw (q .read-is) (c .before .before .of-formula .ensures _ (q .formula) (l .0) (l .2))
 

@@ -20,13 +20,13 @@ of-sheet-requires c κs = search needs
 returns : tie.Need-returns
 returns c =
     let a = c .before .before .before .before .before .before .before .args in
-    promise-wrong (a .buffer .now) (ap (formOfChart (a .sheet .now) (a .name)) (sym (c .before .before .before .read-chart .ensures) ∙ c .before .r .given .1)) refl
+    promise-wrong (a .buffer .now) (ap (formOfChart (a .sheet .now) (a .name)) (sym (c .before .before .before .read-chart .ensures .0) ∙ c .before .r .given .1)) refl
 
 same-length : tie.Need-same-length
 same-length c = search needs
 
 returns-2 : tie.Need-returns-2
-returns-2 c = rw (← c .before .before .before .before .before .before .before .read-chart .ensures, c .before .before .before .before .before .shape .given .1) (c .before .before .of-sheet .ensures)
+returns-2 c = rw (← c .before .before .before .before .before .before .before .read-chart .ensures .0, c .before .before .before .before .before .shape .given .1) (c .before .before .of-sheet .ensures)
 
 pub short-form-spec : {M : Type 1} → statement M
 short-form-spec =

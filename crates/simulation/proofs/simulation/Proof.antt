@@ -16,14 +16,14 @@ enum-known-r : tie.Need-enum-known-r
 enum-known-r c = search needs
 
 returns : tie.Need-returns
-returns c = promise-chart _ _ _ (sym (c .before .before .before .read-chart .ensures) ∙ c .before .r .given .1)
+returns c = promise-chart _ _ _ (sym (c .before .before .before .read-chart .ensures .0) ∙ c .before .r .given .1)
 
 enum-known-s : tie.Need-enum-known-s
 enum-known-s c = search needs
 
 mul-if1 : tie.Need-mul-if1
 mul-if1 c =
-    let read = sym (c .before .before .before .read-chart .ensures) ∙ c .before .s .given .1 in
+    let read = sym (c .before .before .before .read-chart .ensures .0) ∙ c .before .s .given .1 in
     omega (arith, cells-few _ (accepted _ _ read .states-few))
 
 of-lent-requires : tie.Need-of-lent-requires
@@ -31,22 +31,22 @@ of-lent-requires c κs = search needs
 
 returns-2 : tie.Need-returns-2
 returns-2 c =
-    let read = sym (c .before .before .before .before .before .read-chart .ensures) ∙ c .before .before .before .s .given .1 in
+    let read = sym (c .before .before .before .before .before .read-chart .ensures .0) ∙ c .before .before .before .s .given .1 in
     promise-short _ _ read _ _ (c .before .if1 .taken) (c .of-lent .ensures)
 
 add-work-out : tie.Need-add-work-out
 add-work-out c =
-    let read = sym (c .before .before .before .before .read-chart .ensures) ∙ c .before .before .s .given .1 in
+    let read = sym (c .before .before .before .before .read-chart .ensures .0) ∙ c .before .before .s .given .1 in
     omega (arith, accepted _ _ read .states-few)
 
 add-work-out-2 : tie.Need-add-work-out-2
 add-work-out-2 c =
-    let a = accepted _ _ (sym (c .before .before .before .before .before .read-chart .ensures) ∙ c .before .before .before .s .given .1) in
+    let a = accepted _ _ (sym (c .before .before .before .before .before .read-chart .ensures .0) ∙ c .before .before .before .s .given .1) in
     omega (arith, a .states-few, a .actions-few)
 
 work-out-requires : tie.Need-work-out-requires
 work-out-requires c κs =
-    let a = accepted _ _ (sym (c .before .before .before .before .before .before .read-chart .ensures) ∙ c .before .before .before .before .s .given .1) in
+    let a = accepted _ _ (sym (c .before .before .before .before .before .before .read-chart .ensures .0) ∙ c .before .before .before .before .s .given .1) in
     (stands-chart _ _ a, (a .states-some, c .before .before .if1 .left))
 
 same-length : tie.Need-same-length
@@ -54,7 +54,7 @@ same-length c = search needs
 
 returns-3 : tie.Need-returns-3
 returns-3 c =
-    let read = sym (c .before .before .before .before .before .before .before .before .before .read-chart .ensures) ∙ c .before .before .before .before .before .before .before .s .given .1 in
+    let read = sym (c .before .before .before .before .before .before .before .before .before .read-chart .ensures .0) ∙ c .before .before .before .before .before .before .before .s .given .1 in
     promise-worked _ _ read _ _ _ (c .before .before .before .before .before .if1 .left) (c .before .before .work-out .ensures) (λ given some targets w. simulation-of _ _ targets w)
 
 pub simulation-spec : {M : Type 1} → statement M
