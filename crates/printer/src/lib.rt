@@ -1,7 +1,7 @@
 // The thin part of the program: a file's bytes are read, the report on them is made by proved code, and it is written once. No contract can say
 // what is read or written.
+use lent::LentAnswer;
 use libc::STDOUT_FILENO;
-use report::ReportAnswer;
 ghost use lib.ListN.{length};
 ghost use Rattle.printer.specs.Filled.{Within};
 
@@ -47,8 +47,8 @@ fn print_report(bytes: &[u8], size: usize) {
         return;
     }
     match report::report(&bytes[..size], &mut text) {
-        ReportAnswer::Written(length) => print_start(&text, length),
-        ReportAnswer::Refused(_) => {}
+        LentAnswer::Written(length) => print_start(&text, length),
+        LentAnswer::Refused(_) => {}
     }
 }
 

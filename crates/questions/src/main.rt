@@ -1,9 +1,9 @@
 // Document 01's boards and edges on the questions, and worked examples of the source documents: what is printed is held to the file stdout.
+use lent::LentAnswer;
 use libc::STDOUT_FILENO;
 use property::PropertyAnswer;
 use refusal::Refusal;
 use relation::MatrixAnswer;
-use short_form::ShortFormAnswer;
 
 fn say(words: &[u8]) {
     io::write_all(STDOUT_FILENO, words);
@@ -153,12 +153,12 @@ fn deep(nodes: u8) -> [u8; 404] {
 fn show_form(chart: &[u8], sheet: &[u8], name: u64, buffer: &mut [u8]) {
     let answer = short_form::short_form(chart, sheet, name, buffer);
     match answer {
-        ShortFormAnswer::Written(written) => {
+        LentAnswer::Written(written) => {
             say(b"written");
             number(written as u64);
             say(b"\n");
         }
-        ShortFormAnswer::Refused(r) => refused(r),
+        LentAnswer::Refused(r) => refused(r),
     }
 }
 

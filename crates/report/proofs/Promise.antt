@@ -3,13 +3,10 @@ use Prim.Native.Nat.{ℕ, zero, suc, _+_, _-_, _*_, _≤_, _<_}
 use mathlib.Core.Path.{_≡_, refl, ap, sym, subst, _∙_}
 use mathlib.Core.List.{List}
 use native.Mathlib.Omega.{arith}
-use native.Mathlib.Nat.{zero-add}
-use borrow.Author.Tests.{lt-ltb, le-ltb}
 use lib.ListN.{length, take}
 use lib.Seq.{take-at}
 use Rattle.settle.specs.Finite.{pairs}
 use Rattle.settle.proofs.Chain.{rounds-unique}
-use Rattle.refusal.specs.Refusal.{lentRefusal}
 use Rattle.refusal.specs.declared.Refusal.{Refusal}
 use Rattle.chart.specs.Reading.{readChart, chartIn}
 use Rattle.chart.specs.declared.Shape.{Shape}
@@ -29,12 +26,12 @@ use Rattle.relation.proofs.Ranges.{stands-chart, targets-below}
 use Rattle.marks.specs.Promise.{MarksOf, MarksPromise}
 use Rattle.marks.proofs.Promise.{always-answered}
 use Rattle.text.specs.Text.{placed}
-use Rattle.text.proofs.Laws.{Put}
+use Rattle.lent.specs.Lent.{writes, LentPromise}
+use Rattle.lent.specs.declared.LentAnswer.{LentAnswer}
+use Rattle.lent.proofs.Lent.{lent-determined}
 use Rattle.report.specs.Text.{refusedText, rowText, rowsText, chartText}
 use Rattle.report.specs.Promise.{ChartReport, ReportBy, ReportOf, ReportPromise}
 use Rattle.report.specs.Page.{Made}
-use Rattle.report.specs.declared.ReportAnswer.{ReportAnswer}
-use Rattle.report.specs.declared.ReportAnswer.the-variants.{Written, Refused}
 use Rattle.report.proofs.Longest.{chart-most, refused-most}
 
 -- ---- a report is short
@@ -97,11 +94,11 @@ report-unique chart t u a b = go (readChart chart) a b
         ∙ sym (d .text-is)
 
 -- any two answers, and any two buffers, that the promise allows agree
-pub report-determined : (chart old new new′ : List ℕ) (answer answer′ : ReportAnswer)
+pub report-determined : (chart old new new′ : List ℕ) (answer answer′ : LentAnswer)
     → ReportPromise chart old new answer → ReportPromise chart old new′ answer′ → (answer ≡ answer′) × (new ≡ new′)
 report-determined chart old new new′ answer answer′ p q =
     let e : p .text ≡ q .text = report-unique chart (p .text) (q .text) (p .is-report) (q .is-report) in
-    (p .answered ∙ rw e (sym (q .answered)), p .bytes ∙ rw e (sym (q .bytes)))
+    lent-determined (writes (q .text)) old (rw e at (p .in-buffer)) (q .in-buffer)
 
 -- ---- the marks promise gives it
 
@@ -160,19 +157,6 @@ made chart old text r p =
 
 -- ---- in the lent buffer
 
-module _ (chart : List ℕ) {size : ℕ} {page : List ℕ} (m : Made chart size page) (old : List ℕ) where
-  pub promise-short : {said : Refusal} → length old < size → said ≡ lentRefusal 14 → ReportPromise chart old old (Refused said)
-  promise-short h e =
-      let s : length old < length (m .text) = omega (arith, m .size-is) in
-      record { text = m .text; is-report = m .is-report; answered = rw (lt-ltb _ _ s, e); bytes = rw (lt-ltb _ _ s) }
-
-  pub promise-written : {r : ℕ} {new : List ℕ} → size ≤ length old → Put old 0 (take size page) r new → ReportPromise chart old new (Written size)
-  unfolding placed
-  promise-written h p =
-      let l : length (m .text) ≤ length old = omega (arith, m .size-is) in
-      record {
-        text = m .text;
-        is-report = m .is-report;
-        answered = rw (le-ltb _ _ l, m .size-is);
-        bytes = rw (le-ltb _ _ l) (rw (m .stands, zero-add) at (p .1));
-      }
+pub promised : (chart old new : List ℕ) (answer : LentAnswer) {size : ℕ} {page : List ℕ} → Made chart size page
+    → LentPromise (writes (take size page)) old new answer → ReportPromise chart old new answer
+promised chart old new answer m p = record { text = m .text; is-report = m .is-report; in-buffer = rw (m .stands) at p }

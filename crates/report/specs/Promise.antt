@@ -1,22 +1,18 @@
 -- The report on a chart's bytes, and what `report` promises of it.
 use Prim.Native.Nat.{ℕ, _<_}
 use mathlib.Core.Path.{_≡_}
-use mathlib.Core.List.{List, _++_}
-use lib.Dec.{ltb}
-use lib.ListN.{length, drop}
+use mathlib.Core.List.{List}
 use Rattle.settle.specs.Finite.{pairs}
 use Rattle.settle.specs.Chain.{Rounds}
-use Rattle.settle.specs.Test.{pick}
-use Rattle.refusal.specs.Refusal.{lentRefusal}
 use Rattle.chart.specs.Reading.{readChart, chartIn}
 use Rattle.chart.specs.declared.Shape.{Shape}
 use Rattle.chart.specs.declared.ChartRead.{ChartRead}
 use Rattle.chart.specs.declared.ChartRead.the-variants as Read
 use Rattle.nearness.specs.Relation.{Near}
 use Rattle.nearness.specs.Mark.{Mark}
+use Rattle.lent.specs.Lent.{writes, LentPromise}
+use Rattle.lent.specs.declared.LentAnswer.{LentAnswer}
 use Rattle.report.specs.Text.{refusedText, chartText}
-use Rattle.report.specs.declared.ReportAnswer.{ReportAnswer}
-use Rattle.report.specs.declared.ReportAnswer.the-variants.{Written, Refused}
 
 -- the text of an accepted chart: of its rounds and of the marks that its pairs bear
 pub record ChartReport (chart : List ℕ) (sh : Shape) (text : List ℕ) : Type 0 where
@@ -34,10 +30,8 @@ ReportBy chart (Read.Refused r) text = text ≡ refusedText r
 abbrev pub ReportOf : List ℕ → List ℕ → Type 0
 ReportOf chart text = ReportBy chart (readChart chart) text
 
--- old is the lent buffer before the call, new after: the text fills its start and later bytes stay; 14 exactly if it is shorter than the text,
--- and then every byte stays
-pub record ReportPromise (chart old new : List ℕ) (answer : ReportAnswer) : Type 0 where
+-- old is the lent buffer before the call, new after: the text is written to it
+pub record ReportPromise (chart old new : List ℕ) (answer : LentAnswer) : Type 0 where
   pub text : List ℕ
   pub is-report : ReportOf chart text
-  pub answered : answer ≡ pick (ltb (length old) (length text)) (Refused (lentRefusal 14)) (Written (length text))
-  pub bytes : new ≡ pick (ltb (length old) (length text)) old (text ++ drop (length text) old)
+  pub in-buffer : LentPromise (writes text) old new answer

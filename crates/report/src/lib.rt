@@ -1,4 +1,5 @@
 // The text that the program prints for a chart's bytes.
+use lent::LentAnswer;
 use refusal::Refusal;
 use relation::MatrixAnswer;
 ghost use mathlib.Core.Path.{_≡_};
@@ -10,12 +11,6 @@ ghost use Rattle.text.specs.Text.{line, placed};
 ghost use Rattle.report.specs.Text.{refusedText, pairText, rowText, rowsText, chartText};
 ghost use Rattle.report.specs.Promise.{ReportPromise};
 ghost use Rattle.report.specs.Page.{Made};
-
-// The length written, or the refusal.
-pub enum ReportAnswer {
-    Written(usize),
-    Refused(Refusal),
-}
 
 // Room for the marks of 64 states.
 fn matrix_room() -> [u8; 4096]
@@ -131,14 +126,10 @@ fn make(chart: &[u8], page: &mut [u8]) -> usize
 }
 
 // The report on a chart's bytes, in the start of the lent buffer.
-pub fn report(chart: &[u8], buffer: &mut [u8]) -> ReportAnswer
+pub fn report(chart: &[u8], buffer: &mut [u8]) -> LentAnswer
     ensures { λ r. ⌜ ReportPromise (now (chart .entry)) (now (buffer .entry)) (now (buffer .exit)) r ⌝ }
 {
     let mut page = page_room();
     let size = make(chart, &mut page);
-    if buffer.len() < size {
-        return ReportAnswer::Refused(refusal::of_lent(14));
-    }
-    text::put_bytes(buffer, 0, &page[..size]);
-    ReportAnswer::Written(size)
+    lent::fill(buffer, &page[..size])
 }

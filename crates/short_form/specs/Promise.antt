@@ -1,8 +1,6 @@
 -- What `short_form` answers for a chart's bytes, a sheet's bytes, a name and a lent buffer: document 01's table and its order of refusals.
 use Prim.Native.Nat.{ℕ, _+_}
-use mathlib.Core.Path.{_≡_}
-use mathlib.Core.List.{List, _++_}
-use lib.ListN.{length, drop}
+use mathlib.Core.List.{List}
 use lib.Dec.{ltb}
 use Rattle.settle.specs.Test.{pick}
 use Rattle.refusal.specs.Refusal.{sheetRefusal, lentRefusal}
@@ -13,9 +11,9 @@ use Rattle.chart.specs.declared.ChartRead.the-variants as Read
 use Rattle.sheet.specs.Formula.{Formula, variable, top, bottom, and, or, diamond, box, variableFree, nodes}
 use Rattle.sheet.specs.Layout.{encode}
 use Rattle.sheet.specs.Reading.{Sheet, sheet, refused, readSheet}
+use Rattle.lent.specs.Lent.{Outcome, writes, refuses, LentPromise}
+use Rattle.lent.specs.declared.LentAnswer.{LentAnswer}
 use Rattle.short_form.specs.ShortForm.{shortForm, kindWritten}
-use Rattle.short_form.specs.declared.ShortFormAnswer.{ShortFormAnswer}
-use Rattle.short_form.specs.declared.ShortFormAnswer.the-variants.{Written, Refused}
 
 -- the formula's bytes before its first variable; all of them where it has none
 unfoldable pub beforeVariable : Formula → ℕ
@@ -51,19 +49,11 @@ abbrev pub formOfChart : List ℕ → ℕ → ChartRead → Form
 formOfChart s name (Read.Chart shape) = formOfSheet name (readSheet s (shape .m))
 formOfChart s name (Read.Refused r) = wrong r
 
--- the length written; 14 exactly if the buffer is shorter
-abbrev pub answerOf : List ℕ → Form → ShortFormAnswer
-answerOf old (form kind f) = pick (ltb (length old) (length (encode kind f))) (Refused (lentRefusal 14)) (Written (length (encode kind f)))
-answerOf old (wrong r) = Refused r
+-- what goes to the lent buffer: the sheet, or the refusal
+abbrev pub outcomeOf : Form → Outcome
+outcomeOf (form kind f) = writes (encode kind f)
+outcomeOf (wrong r) = refuses r
 
--- the sheet fills the buffer's start and later bytes stay; a refusal leaves every byte
-abbrev pub bytesOf : List ℕ → Form → List ℕ
-bytesOf old (form kind f) = pick (ltb (length old) (length (encode kind f))) old (encode kind f ++ drop (length (encode kind f)) old)
-bytesOf old (wrong r) = old
-
-pub record FormPromise (to-write : Form) (old new : List ℕ) (answer : ShortFormAnswer) : Type 0 where
-  pub answered : answer ≡ answerOf old to-write
-  pub bytes : new ≡ bytesOf old to-write
-
-abbrev pub ShortFormPromise : List ℕ → List ℕ → ℕ → List ℕ → List ℕ → ShortFormAnswer → Type 0
-ShortFormPromise chart s name old new answer = FormPromise (formOfChart s name (readChart chart)) old new answer
+-- old is the lent buffer before the call, new after
+abbrev pub ShortFormPromise : List ℕ → List ℕ → ℕ → List ℕ → List ℕ → LentAnswer → Type 0
+ShortFormPromise chart s name old new answer = LentPromise (outcomeOf (formOfChart s name (readChart chart))) old new answer

@@ -1,6 +1,6 @@
 // The sheet of a short form: document 01's table of four, for F without variable and a name.
 use chart::ChartRead;
-use refusal::Refusal;
+use lent::LentAnswer;
 use sheet::SheetRead;
 ghost use mathlib.Core.Path.{_≡_};
 ghost use mathlib.Core.Bool.{false};
@@ -13,15 +13,10 @@ ghost use Rattle.sheet.specs.Formula.{Formula, nodes};
 ghost use Rattle.sheet.specs.Layout.{encode};
 ghost use Rattle.sheet.specs.Reading.{readSheet};
 ghost use Rattle.text.specs.Text.{placed, PutPromise};
+ghost use Rattle.lent.specs.Lent.{LentPromise};
 ghost use Rattle.short_form.specs.ShortForm.{kindWritten};
-ghost use Rattle.short_form.specs.Promise.{beforeVariable, formOf, formOfSheet, FormPromise, ShortFormPromise};
+ghost use Rattle.short_form.specs.Promise.{beforeVariable, formOf, formOfSheet, outcomeOf, ShortFormPromise};
 ghost use Rattle.short_form.specs.Pieces.{operatorOf, operandOf, moreNodes};
-
-// The length written, or the refusal.
-pub enum ShortFormAnswer {
-    Written(usize),
-    Refused(Refusal),
-}
 
 // Whether the byte is a variable's node, where `action` says that it is an action byte.
 fn is_variable(byte: u8, action: bool) -> bool
@@ -141,46 +136,46 @@ fn put_form(buffer: &mut [u8], sheet: &[u8], name: u64, total: u8)
 }
 
 // The form of an accepted sheet of so many nodes.
-fn of_formula(sheet: &[u8], count: usize, name: u64, buffer: &mut [u8]) -> ShortFormAnswer
+fn of_formula(sheet: &[u8], count: usize, name: u64, buffer: &mut [u8]) -> LentAnswer
     requires { ⌜ count ≤ 200 ⌝ }
     requires { ⌜ 3 ≤ length (now sheet) ⌝ }
-    ensures { λ r. ⌜ ((kind : ℕ) (f : Formula) → now (sheet .entry) ≡ encode kind f → count ≡ nodes f → FormPromise (formOf name f) (now (buffer .entry)) (now (buffer .exit)) r) ⌝ }
+    ensures { λ r. ⌜ ((kind : ℕ) (f : Formula) → now (sheet .entry) ≡ encode kind f → count ≡ nodes f → LentPromise (outcomeOf (formOf name f)) (now (buffer .entry)) (now (buffer .exit)) r) ⌝ }
 {
     let variable = first_variable(sheet);
     if variable < sheet.len() {
-        return ShortFormAnswer::Refused(refusal::of_sheet(16, variable));
+        return LentAnswer::Refused(refusal::of_sheet(16, variable));
     }
     if 3 < name {
-        return ShortFormAnswer::Refused(refusal::of_lent(17));
+        return LentAnswer::Refused(refusal::of_lent(17));
     }
     let total = count + more_nodes(name);
     if 200 < total {
-        return ShortFormAnswer::Refused(refusal::of_sheet(10, 2));
+        return LentAnswer::Refused(refusal::of_sheet(10, 2));
     }
     let size = sheet.len() + 1 + operand_size(name);
     if buffer.len() < size {
-        return ShortFormAnswer::Refused(refusal::of_lent(14));
+        return LentAnswer::Refused(refusal::of_lent(14));
     }
     put_form(buffer, sheet, name, total as u8);
-    ShortFormAnswer::Written(size)
+    LentAnswer::Written(size)
 }
 
 // The form of a sheet, or its refusal.
-fn of_sheet(sheet: &[u8], m: usize, name: u64, buffer: &mut [u8]) -> ShortFormAnswer
-    ensures { λ r. ⌜ FormPromise (formOfSheet name (readSheet (now (sheet .entry)) m)) (now (buffer .entry)) (now (buffer .exit)) r ⌝ }
+fn of_sheet(sheet: &[u8], m: usize, name: u64, buffer: &mut [u8]) -> LentAnswer
+    ensures { λ r. ⌜ LentPromise (outcomeOf (formOfSheet name (readSheet (now (sheet .entry)) m))) (now (buffer .entry)) (now (buffer .exit)) r ⌝ }
 {
     match sheet::read_sheet(sheet, m) {
-        SheetRead::Refused(r) => ShortFormAnswer::Refused(r),
+        SheetRead::Refused(r) => LentAnswer::Refused(r),
         SheetRead::Sheet(outline) => of_formula(sheet, outline.nodes, name, buffer),
     }
 }
 
 // The sheet of a short form, in the start of the lent buffer.
-pub fn short_form(chart: &[u8], sheet: &[u8], name: u64, buffer: &mut [u8]) -> ShortFormAnswer
+pub fn short_form(chart: &[u8], sheet: &[u8], name: u64, buffer: &mut [u8]) -> LentAnswer
     ensures { λ r. ⌜ ShortFormPromise (now (chart .entry)) (now (sheet .entry)) name (now (buffer .entry)) (now (buffer .exit)) r ⌝ }
 {
     match chart::read_chart(chart) {
-        ChartRead::Refused(r) => ShortFormAnswer::Refused(r),
+        ChartRead::Refused(r) => LentAnswer::Refused(r),
         ChartRead::Chart(shape) => of_sheet(sheet, shape.m, name, buffer),
     }
 }

@@ -1,13 +1,11 @@
 -- Every refusal that a question promises can be packed: its number is from 1 to 17 and its place not past the longest chart. Assumes nothing.
 use Prim.Native.Nat.{ℕ, _*_, _≤_, _<_}
 use mathlib.Core.Path.{_≡_, refl, sym, subst⁻¹}
-use mathlib.Core.Bool.{Bool, true, false}
+use mathlib.Core.Logic.{⊎-elim}
 use mathlib.Core.List.{List}
 use native.Mathlib.Omega.{arith}
 use native.Mathlib.Decide.{decLt}
-use lib.Dec.{ltb}
 use lib.ListN.{length}
-use Rattle.settle.specs.Test.{pick}
 use Rattle.refusal.specs.Refusal.{lentRefusal}
 use Rattle.refusal.specs.declared.Refusal.{Refusal}
 use Rattle.chart.specs.Reading.{readChart}
@@ -23,10 +21,12 @@ use Rattle.relation.specs.Promise.{Saying, Relations, MatrixPromise}
 use Rattle.relation.specs.declared.MatrixAnswer.the-variants as Matrices
 use Rattle.property.specs.Promise.{PropertyPromise}
 use Rattle.property.specs.declared.PropertyAnswer.the-variants as Property
-use Rattle.short_form.specs.Promise.{Form, form, wrong, formOf, formOfSheet, formOfChart, answerOf, ShortFormPromise}
-use Rattle.short_form.specs.declared.ShortFormAnswer.the-variants as Answer
+use Rattle.lent.specs.Lent.{refuses}
+use Rattle.lent.specs.declared.LentAnswer.the-variants as Lent
+use Rattle.lent.proofs.Lent.{no-bytes, refused-by}
+use Rattle.short_form.specs.Promise.{Form, formOf, formOfSheet, formOfChart, outcomeOf, ShortFormPromise}
 use Rattle.short_form.proofs.Scan.{before-within}
-use Rattle.short_form.proofs.Promise.{form-cases, no-form, not-written}
+use Rattle.short_form.proofs.Promise.{form-cases}
 use Rattle.viewer.proofs.Packing.{Packable}
 
 packable-as : {r s : Refusal} → r ≡ s → Packable s → Packable r
@@ -78,32 +78,24 @@ property-packable chart bytes r p = by-chart (readChart chart) refl
 
 -- ---- short form
 
-wrong-is : {r s : Refusal} → wrong r ≡ wrong s → s ≡ r
-wrong-is e = cc
+refuses-is : {r s : Refusal} → refuses r ≡ refuses s → s ≡ r
+refuses-is e = cc
 
-form-packable : (name : ℕ) (f : Formula) (r : Refusal) → nodes f ≤ 200 → formOf name f ≡ wrong r → Packable r
+form-packable : (name : ℕ) (f : Formula) (r : Refusal) → nodes f ≤ 200 → outcomeOf (formOf name f) ≡ refuses r → Packable r
 form-packable name f r few =
-    form-cases name f (λ (w : Form). w ≡ wrong r → Packable r)
-    (λ e. packable-as (wrong-is e) (fits (omega arith) (omega arith) (omega (arith, before-within f, bytes-few f))))
-    (λ e. packable-as (wrong-is e) (lent-packable 17 (omega arith) (omega arith)))
-    (λ e. packable-as (wrong-is e) (fits (omega arith) (omega arith) (omega arith)))
-    (λ h e. no-form (sym e))
+    form-cases name f (λ (w : Form). outcomeOf w ≡ refuses r → Packable r)
+    (λ e. packable-as (refuses-is e) (fits (omega arith) (omega arith) (omega (arith, before-within f, bytes-few f))))
+    (λ e. packable-as (refuses-is e) (lent-packable 17 (omega arith) (omega arith)))
+    (λ e. packable-as (refuses-is e) (fits (omega arith) (omega arith) (omega arith)))
+    (λ h e. no-bytes (sym e))
 
-pub short-form-packable : (chart bytes : List ℕ) (name : ℕ) (old new : List ℕ) (r : Refusal) → ShortFormPromise chart bytes name old new (Answer.Refused r) → Packable r
-short-form-packable chart bytes name old new r p = by-chart (readChart chart) refl (p .answered)
+pub short-form-packable : (chart bytes : List ℕ) (name : ℕ) (old new : List ℕ) (r : Refusal) → ShortFormPromise chart bytes name old new (Lent.Refused r) → Packable r
+short-form-packable chart bytes name old new r p = ⊎-elim (by-chart (readChart chart) refl) (λ e. packable-as e (lent-packable 14 (omega arith) (omega arith))) (refused-by _ old new r p)
   where
-    by-form : (w : Form) → ((s : Refusal) → w ≡ wrong s → Packable s) → Answer.Refused r ≡ answerOf old w → Packable r
-    by-form (wrong s) h e = let q : r ≡ s = cc in packable-as q (h s refl)
-    by-form (form kind f) h e = go _ (ltb (length old) _) e
-      where
-        go : (size : ℕ) (x : Bool) → Answer.Refused r ≡ pick x (Answer.Refused (lentRefusal 14)) (Answer.Written size) → Packable r
-        go size true e = let q : r ≡ lentRefusal 14 = cc in packable-as q (lent-packable 14 (omega arith) (omega arith))
-        go size false e = not-written e
+    by-sheet : (sh : Shape) (x : Sheet) → readSheet bytes (sh .m) ≡ x → outcomeOf (formOfSheet name x) ≡ refuses r → Packable r
+    by-sheet sh (refused s) d e = packable-as (refuses-is e) (sheet-packable bytes (sh .m) s d)
+    by-sheet sh (sheet kind count f) d e = form-packable name f r (layout-read bytes (sh .m) kind count f d .1 .nodes-few) e
 
-    by-sheet : (sh : Shape) (x : Sheet) → readSheet bytes (sh .m) ≡ x → (s : Refusal) → formOfSheet name x ≡ wrong s → Packable s
-    by-sheet sh (refused t) d s e = packable-as (wrong-is e) (sheet-packable bytes (sh .m) t d)
-    by-sheet sh (sheet kind count f) d s e = form-packable name f s (layout-read bytes (sh .m) kind count f d .1 .nodes-few) e
-
-    by-chart : (x : ChartRead) → readChart chart ≡ x → Answer.Refused r ≡ answerOf old (formOfChart bytes name x) → Packable r
-    by-chart (Read.Refused s) e a = by-form (wrong s) (λ t f. packable-as (wrong-is f) (chart-packable chart s e)) a
-    by-chart (Read.Chart sh) e a = by-form (formOfSheet name (readSheet bytes (sh .m))) (by-sheet sh (readSheet bytes (sh .m)) refl) a
+    by-chart : (x : ChartRead) → readChart chart ≡ x → outcomeOf (formOfChart bytes name x) ≡ refuses r → Packable r
+    by-chart (Read.Refused s) d e = packable-as (refuses-is e) (chart-packable chart s d)
+    by-chart (Read.Chart sh) d e = by-sheet sh (readSheet bytes (sh .m)) refl e

@@ -17,10 +17,11 @@ use Rattle.property.specs.declared.Solved.{Solved}
 use Rattle.property.specs.declared.PropertyAnswer.{PropertyAnswer}
 use Rattle.property.specs.declared.PropertyAnswer.the-variants as Property
 use Rattle.property.proofs.Promise.{property-determined}
+use Rattle.lent.specs.declared.LentAnswer.{LentAnswer}
+use Rattle.lent.specs.declared.LentAnswer.the-variants.{Written, Refused}
+use Rattle.lent.proofs.Lent.{not-written}
 use Rattle.short_form.specs.Promise.{ShortFormPromise}
-use Rattle.short_form.specs.declared.ShortFormAnswer.{ShortFormAnswer}
-use Rattle.short_form.specs.declared.ShortFormAnswer.the-variants as Form
-use Rattle.short_form.proofs.Promise.{short-form-determined, not-written}
+use Rattle.short_form.proofs.Promise.{short-form-determined}
 use Rattle.viewer.specs.Packing.{packed, Parts}
 use Rattle.viewer.specs.Shown.{Lent, matrixCode, MarksShown, SimulationShown, propertyCode, PropertyShown, formCode, ShortFormShown}
 use Rattle.viewer.specs.Told.{Told}
@@ -82,12 +83,12 @@ property-told chart sheet word count rounds code x =
 
 -- ---- short form
 
-written-or-refused : {code : ℕ} (a : ShortFormAnswer) → code ≡ formCode a → Coded Form.Written Form.Refused a code
-written-or-refused (Form.Written length) e = inl (length, refl, e)
-written-or-refused (Form.Refused r) e = inr (r, refl, e)
+written-or-refused : {code : ℕ} (a : LentAnswer) → code ≡ formCode a → Coded Written Refused a code
+written-or-refused (Written length) e = inl (length, refl, e)
+written-or-refused (Refused r) e = inr (r, refl, e)
 
 pub short-form-told : (chart sheet : List ℕ) (name : ℕ) (old new : List ℕ) (written : Lent) (code : ℕ) → ShortFormShown chart sheet name old new written code
-    → Told Form.Written Form.Refused (ShortFormPromise chart sheet name old new) code
+    → Told Written Refused (ShortFormPromise chart sheet name old new) code
 short-form-told chart sheet name old new written code x =
     told (λ s t p q. short-form-determined chart sheet name old p q .0) (short-form-packable chart sheet name old new) (λ length r e. not-written (sym e))
     (x .answer) (x .promised) (written-or-refused (x .answer) (x .code-is))

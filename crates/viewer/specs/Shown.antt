@@ -10,9 +10,9 @@ use Rattle.simulation.specs.Promise.{SimulationPromise}
 use Rattle.property.specs.Promise.{PropertyPromise}
 use Rattle.property.specs.declared.PropertyAnswer.{PropertyAnswer}
 use Rattle.property.specs.declared.PropertyAnswer.the-variants as Property
+use Rattle.lent.specs.declared.LentAnswer.{LentAnswer}
+use Rattle.lent.specs.declared.LentAnswer.the-variants.{Written, Refused}
 use Rattle.short_form.specs.Promise.{ShortFormPromise}
-use Rattle.short_form.specs.declared.ShortFormAnswer.{ShortFormAnswer}
-use Rattle.short_form.specs.declared.ShortFormAnswer.the-variants as Form
 use Rattle.viewer.specs.Packing.{packed}
 
 -- a lent number before and after a call
@@ -79,16 +79,16 @@ pub record PropertyShown (chart sheet : List ℕ) (word count rounds : Lent) (co
 
 -- ---- short form
 
-abbrev pub formCode : ShortFormAnswer → ℕ
-formCode (Form.Written length) = 0
-formCode (Form.Refused r) = packed r
+abbrev pub formCode : LentAnswer → ℕ
+formCode (Written length) = 0
+formCode (Refused r) = packed r
 
-abbrev pub writtenLeft : ℕ → ShortFormAnswer → ℕ
-writtenLeft old (Form.Written length) = length
-writtenLeft old (Form.Refused r) = old
+abbrev pub writtenLeft : ℕ → LentAnswer → ℕ
+writtenLeft old (Written length) = length
+writtenLeft old (Refused r) = old
 
 pub record ShortFormShown (chart sheet : List ℕ) (name : ℕ) (old new : List ℕ) (written : Lent) (code : ℕ) : Type 0 where
-  pub answer : ShortFormAnswer
+  pub answer : LentAnswer
   pub promised : ShortFormPromise chart sheet name old new answer
   pub code-is : code ≡ formCode answer
   pub written-is : written .after ≡ writtenLeft (written .before) answer

@@ -1,9 +1,9 @@
 // The questions for the C viewer, on byte slices and numbers. Each call answers 0, or the refusal as number | input << 8 | place << 16; the lent
 // numbers and bytes are written only where it answers 0.
+use lent::LentAnswer;
 use property::PropertyAnswer;
 use refusal::Refusal;
 use relation::MatrixAnswer;
-use short_form::ShortFormAnswer;
 ghost use mathlib.Core.Path.{_≡_};
 ghost use Prim.Native.Nat.{_≤_};
 ghost use Rattle.viewer.specs.Packing.{packed};
@@ -98,10 +98,10 @@ pub extern "C" fn rebatelion_short_form(
 {
     let answer = short_form::short_form(chart, sheet, name, buffer);
     match answer {
-        ShortFormAnswer::Written(length) => {
+        LentAnswer::Written(length) => {
             *written = length as u64;
             0
         }
-        ShortFormAnswer::Refused(r) => pack(r),
+        LentAnswer::Refused(r) => pack(r),
     }
 }

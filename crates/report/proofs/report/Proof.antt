@@ -1,11 +1,10 @@
 use borrow.Author.Needs.{needs}
 use native.Mathlib.Omega.{arith}
-use Prim.Native.Nat.{_+_, _≤_}
+use Prim.Native.Nat.{_≤_}
 use mathlib.Core.Path.{sym}
-use lib.ListN.{length, take}
+use lib.ListN.{length}
 use lib.Seq.{length-take-le}
-use Rattle.text.proofs.Laws.{put-fits}
-use Rattle.report.proofs.Promise.{report-short, promise-short, promise-written}
+use Rattle.report.proofs.Promise.{report-short, promised}
 use Rattle.report.proofs.report.Statement.{statement}
 use Rattle.report.proofs.report.Tie as tie
 
@@ -24,33 +23,23 @@ slice-aggregate-make c = search needs
 make-requires : tie.Need-make-requires
 make-requires c κs = search needs
 
-of-lent-requires : tie.Need-of-lent-requires
-of-lent-requires c κs = search needs
-
-returns : tie.Need-returns
-returns c =
-    let a = c .before .before .before .before .before .before .before .before .args in
-    promise-short (a .chart .now) (c .before .before .before .make .ensures) (a .buffer .now) (c .before .if1 .taken) (c .of-lent .ensures)
-
 array-share-prefix-page : tie.Need-array-share-prefix-page
-array-share-prefix-page c = inside (c .before .before .before)
+array-share-prefix-page c = omega (arith, inside (c .before .before))
 
-slice-aggregate-put-bytes : tie.Need-slice-aggregate-put-bytes
-slice-aggregate-put-bytes c = sym (length-take-le (c .before .before .before .before .make .result) (c .before .before .before .before .make .last .1 .0) (inside (c .before .before .before .before)))
+slice-aggregate-fill : tie.Need-slice-aggregate-fill
+slice-aggregate-fill c = sym (length-take-le _ (c .before .before .before .make .last .1 .0) (omega (arith, inside (c .before .before .before))))
 
-put-bytes-requires : tie.Need-put-bytes-requires
-put-bytes-requires c κs = search needs
+fill-requires : tie.Need-fill-requires
+fill-requires c κs = search needs
 
 same-length : tie.Need-same-length
 same-length c = search needs
 
-returns-2 : tie.Need-returns-2
-returns-2 c =
-    let a = c .before .before .before .before .before .before .before .before .before .before .before .before .args in
-    let m = c .before .before .before .before .before .before .before .make in
-    let part = take (m .result) (m .last .1 .0) in
-    let room : 0 + length part ≤ length (a .buffer .now) = omega (arith, c .before .before .before .before .before .if1 .left, length-take-le (m .result) (m .last .1 .0) (inside (c .before .before .before .before .before .before .before))) in
-    promise-written (a .chart .now) (m .ensures) (a .buffer .now) (c .before .before .before .before .before .if1 .left) (put-fits (a .buffer .now) 0 part room (c .before .before .put-bytes .ensures))
+returns : tie.Need-returns
+returns c =
+    let a = c .before .before .before .before .before .before .before .before .before .before .before .args in
+    let m = c .before .before .before .before .before .before .make in
+    promised (a .chart .now) (a .buffer .now) _ _ (m .ensures) (c .before .before .fill .ensures)
 
 pub report-spec : {M : Type 1} → statement M
 report-spec =
@@ -59,10 +48,8 @@ report-spec =
     page-room-requires
     slice-aggregate-make
     make-requires
-    of-lent-requires
-    returns
     array-share-prefix-page
-    slice-aggregate-put-bytes
-    put-bytes-requires
+    slice-aggregate-fill
+    fill-requires
     same-length
-    returns-2)
+    returns)

@@ -1,16 +1,17 @@
 use borrow.Author.Needs.{needs}
 use native.Mathlib.Omega.{arith}
 use Prim.Native.Nat.{ℕ, _+_, _<_}
-use mathlib.Core.Path.{_≡_}
+use mathlib.Core.Path.{_≡_, ap}
 use mathlib.Core.Bool.{true}
 use lib.ListN.{length}
 use Rattle.sheet.specs.Formula.{Formula, nodes, variableFree}
 use Rattle.sheet.specs.Layout.{encode}
+use Rattle.lent.proofs.Lent.{promise-refused, promise-short, promise-written}
 use Rattle.short_form.specs.ShortForm.{shortForm, kindWritten}
-use Rattle.short_form.specs.Promise.{beforeVariable}
+use Rattle.short_form.specs.Promise.{beforeVariable, outcomeOf}
 use Rattle.short_form.proofs.Scan.{sheet-free, sheet-bound}
 use Rattle.short_form.proofs.Pieces.{form-nodes, form-length, form-encoded, operand-short, more-few}
-use Rattle.short_form.proofs.Promise.{form-variable, form-unnamed, form-large, form-made, promise-wrong, promise-short, promise-written}
+use Rattle.short_form.proofs.Promise.{form-variable, form-unnamed, form-large, form-made}
 use Rattle.short_form.proofs.of_formula.Statement.{statement}
 use Rattle.short_form.proofs.of_formula.Tie as tie
 
@@ -31,7 +32,7 @@ returns c kind f e n =
     let a = c .before .before .before .before .before .args in
     let v = c .before .before .first-variable in
     let place : v .result ≡ 3 + beforeVariable f = v .ensures kind f e in
-    promise-wrong (a .buffer .now) (form-variable (a .name) f (sheet-bound (a .sheet .now) kind f e (v .result) place (c .before .if1 .taken))) (rw place at (c .of-sheet .ensures))
+    promise-refused (a .buffer .now) (ap outcomeOf (form-variable (a .name) f (sheet-bound (a .sheet .now) kind f e (v .result) place (c .before .if1 .taken)))) (rw place at (c .of-sheet .ensures))
 
 of-lent-requires : tie.Need-of-lent-requires
 of-lent-requires c κs = search needs
@@ -39,7 +40,7 @@ of-lent-requires c κs = search needs
 returns-2 : tie.Need-returns-2
 returns-2 c kind f e n =
     let a = c .before .before .before .before .before .before .args in
-    promise-wrong (a .buffer .now) (form-unnamed (a .name) f (free (c .before .before) kind f e) (c .before .if2 .taken)) (c .of-lent .ensures)
+    promise-refused (a .buffer .now) (ap outcomeOf (form-unnamed (a .name) f (free (c .before .before) kind f e) (c .before .if2 .taken))) (c .of-lent .ensures)
 
 more-nodes-requires : tie.Need-more-nodes-requires
 more-nodes-requires c κs = search needs
@@ -56,7 +57,7 @@ returns-3 : tie.Need-returns-3
 returns-3 c kind f e n =
     let a = c .before .before .before .before .before .before .before .before .args in
     let large : 200 < nodes (shortForm (a .name) f) = omega (arith, c .before .before .more-nodes .ensures, form-nodes (a .name) f) in
-    promise-wrong (a .buffer .now) (form-large (a .name) f (free (c .before .before .before .before) kind f e) (c .before .before .before .if2 .left) large) (c .of-sheet2 .ensures)
+    promise-refused (a .buffer .now) (ap outcomeOf (form-large (a .name) f (free (c .before .before .before .before) kind f e) (c .before .before .before .if2 .left) large)) (c .of-sheet2 .ensures)
 
 add-size : tie.Need-add-size
 add-size c = search needs
@@ -75,7 +76,7 @@ of-lent-requires-2 c κs = search needs
 returns-4 : tie.Need-returns-4
 returns-4 c kind f e n =
     let a = c .before .before .before .before .before .before .before .before .before .before .args in
-    promise-short (a .buffer .now) (form-made (a .name) f (free (c .before .before .before .before .before .before) kind f e) (c .before .before .before .before .before .if2 .left) (omega (arith, c .before .before .before .before .more-nodes .ensures, form-nodes (a .name) f)))
+    promise-short (a .buffer .now) (ap outcomeOf (form-made (a .name) f (free (c .before .before .before .before .before .before) kind f e) (c .before .before .before .before .before .if2 .left) (omega (arith, c .before .before .before .before .more-nodes .ensures, form-nodes (a .name) f))))
     (omega (arith, c .before .before .operand-size .ensures, form-length (a .sheet .now) kind f e (a .name))) (c .of-lent2 .ensures)
 
 cast-put-form : tie.Need-cast-put-form
@@ -92,7 +93,7 @@ returns-5 c kind f e n =
     let a = c .before .before .before .before .before .before .before .before .before .before .before .before .before .args in
     let total : a .count + c .before .before .before .before .before .before .before .more-nodes .result ≡ nodes (shortForm (a .name) f) = omega (arith, c .before .before .before .before .before .before .before .more-nodes .ensures, form-nodes (a .name) f) in
     let size : length (a .sheet .now) + 1 + c .before .before .before .before .before .operand-size .result ≡ length (encode (kindWritten (a .name)) (shortForm (a .name) f)) = omega (arith, c .before .before .before .before .before .operand-size .ensures, form-length (a .sheet .now) kind f e (a .name)) in
-    promise-written (a .buffer .now) (form-made (a .name) f (free (c .before .before .before .before .before .before .before .before .before) kind f e) (c .before .before .before .before .before .before .before .before .if2 .left) (omega (arith, total))) (omega (arith, size)) size
+    promise-written (a .buffer .now) (ap outcomeOf (form-made (a .name) f (free (c .before .before .before .before .before .before .before .before .before) kind f e) (c .before .before .before .before .before .before .before .before .if2 .left) (omega (arith, total)))) (omega (arith, size)) size
     (rw (form-encoded (a .sheet .now) kind f e (a .name) _ total) at (c .before .before .put-form .ensures))
 
 pub of-formula-spec : {M : Type 1} → statement M

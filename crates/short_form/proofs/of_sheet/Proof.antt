@@ -2,9 +2,9 @@ use borrow.Author.Needs.{needs}
 use native.Mathlib.Omega.{arith}
 use mathlib.Core.Path.{refl, sym, ap, _∙_}
 use Rattle.sheet.proofs.Accepted.{formed, refused-exactly, layout-read}
-use Rattle.short_form.specs.Promise.{formOfSheet}
+use Rattle.lent.proofs.Lent.{promise-refused}
+use Rattle.short_form.specs.Promise.{formOfSheet, outcomeOf}
 use Rattle.short_form.proofs.Scan.{sheet-length}
-use Rattle.short_form.proofs.Promise.{promise-wrong}
 use Rattle.short_form.proofs.of_sheet.Statement.{statement}
 use Rattle.short_form.proofs.of_sheet.Tie as tie
 
@@ -28,7 +28,7 @@ returns : tie.Need-returns
 returns c =
     let a = c .before .before .before .before .before .before .args in
     let q = refused-exactly (a .sheet .now) (a .m) (c .before .r .given .0 .0) .0 (sym (c .before .before .before .read-sheet .ensures .0) ∙ c .before .r .given .1) in
-    promise-wrong (a .buffer .now) (ap (formOfSheet (a .name)) q) refl
+    promise-refused (a .buffer .now) (ap (λ x. outcomeOf (formOfSheet (a .name) x)) q) refl
 
 same-length : tie.Need-same-length
 same-length c = search needs

@@ -1,7 +1,7 @@
 use borrow.Author.Needs.{needs}
 use mathlib.Core.Path.{refl, sym, ap, _∙_}
-use Rattle.short_form.specs.Promise.{formOfChart}
-use Rattle.short_form.proofs.Promise.{promise-wrong}
+use Rattle.lent.proofs.Lent.{promise-refused}
+use Rattle.short_form.specs.Promise.{formOfChart, outcomeOf}
 use Rattle.short_form.proofs.short_form.Statement.{statement}
 use Rattle.short_form.proofs.short_form.Tie as tie
 
@@ -20,7 +20,7 @@ of-sheet-requires c κs = search needs
 returns : tie.Need-returns
 returns c =
     let a = c .before .before .before .before .before .before .before .args in
-    promise-wrong (a .buffer .now) (ap (formOfChart (a .sheet .now) (a .name)) (sym (c .before .before .before .read-chart .ensures .0) ∙ c .before .r .given .1)) refl
+    promise-refused (a .buffer .now) (ap (λ x. outcomeOf (formOfChart (a .sheet .now) (a .name) x)) (sym (c .before .before .before .read-chart .ensures .0) ∙ c .before .r .given .1)) refl
 
 same-length : tie.Need-same-length
 same-length c = search needs
