@@ -14,6 +14,16 @@ mod raw {
             count: &mut u64,
             rounds: &mut u64,
         ) -> u64;
+        pub fn rebatelion_short_form(
+            c: *const u8,
+            cn: usize,
+            s: *const u8,
+            sn: usize,
+            name: u64,
+            b: *mut u8,
+            bn: usize,
+            written: &mut u64,
+        ) -> u64;
     }
 }
 
@@ -42,4 +52,12 @@ pub fn property(chart: &[u8], sheet: &[u8]) -> Option<(u64, u64, u64)> {
         raw::rebatelion_property(chart.as_ptr(), chart.len(), sheet.as_ptr(), sheet.len(), &mut word, &mut count, &mut rounds)
     };
     (code == 0).then_some((word, count, rounds))
+}
+
+pub fn short_form(chart: &[u8], sheet: &[u8], name: u64, buffer: &mut [u8]) -> Option<u64> {
+    let (c, s, b) = (chart.as_ptr(), sheet.as_ptr(), buffer.as_mut_ptr());
+    let mut written = 0;
+    // SAFETY: slices of these lengths
+    let code = unsafe { raw::rebatelion_short_form(c, chart.len(), s, sheet.len(), name, b, buffer.len(), &mut written) };
+    (code == 0).then_some(written)
 }

@@ -121,12 +121,22 @@ fn formula(r: &mut Random, nodes: usize, m: usize, out: &mut Vec<u8>) {
     }
 }
 
-/// 199 diamonds and boxes in turn, by all actions, before X.
-pub fn nested_sheet() -> Vec<u8> {
-    let mut out = vec![1, 2, 200];
-    for i in 0..199 {
+/// Diamonds and boxes in turn, by all actions, before the last of so many nodes.
+fn nested(nodes: u8, last: u8) -> Vec<u8> {
+    let mut out = vec![1, 2, nodes];
+    for i in 0..nodes - 1 {
         out.extend([5 + i % 2, 255]);
     }
-    out.push(0);
+    out.push(last);
     out
+}
+
+/// 200 nodes, the last of them X.
+pub fn nested_sheet() -> Vec<u8> {
+    nested(200, 0)
+}
+
+/// No variable: the last node is true.
+pub fn closed_sheet(nodes: u8) -> Vec<u8> {
+    nested(nodes, 1)
 }

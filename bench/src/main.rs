@@ -5,6 +5,7 @@ mod archive;
 mod cases;
 mod read;
 mod same_shape;
+mod short_form;
 mod words;
 
 use std::hint::black_box;
@@ -54,7 +55,7 @@ fn time<const N: usize>(mut calls: [&mut dyn FnMut(); N]) -> [f64; N] {
     least
 }
 
-fn row(question: &str, case: &str, rounds: u64, [archive, same, words]: [f64; 3]) {
+fn row(question: &str, case: &str, rounds: &str, [archive, same, words]: [f64; 3]) {
     let us = 1e6;
     println!(
         "| {question:<10} | {case:<49} | {rounds:>6} | {:>10.2} | {:>10.2} | {:>8.2} | {:>12.2} | {:>13.2} |",
@@ -105,6 +106,26 @@ fn property(chart: &[u8], sheet: &[u8]) -> (u64, [f64; 3]) {
     (answer.2, times)
 }
 
+/// Name 2, which writes the most.
+fn safe_path(chart: &[u8], sheet: &[u8]) -> [f64; 3] {
+    let calls = [archive::short_form, short_form::same_shape, short_form::one_pass];
+    let mut buffers = [[9; 512]; 3];
+    let lengths: Vec<u64> = (0..3).map(|i| calls[i](chart, sheet, 2, &mut buffers[i]).expect("a good F")).collect();
+    assert!(lengths.iter().all(|&k| k == lengths[0]) && buffers[1] == buffers[0] && buffers[2] == buffers[0], "they differ");
+    let [b0, b1, b2] = &mut buffers;
+    time([
+        &mut || {
+            black_box(calls[0](black_box(chart), black_box(sheet), 2, b0));
+        },
+        &mut || {
+            black_box(calls[1](black_box(chart), black_box(sheet), 2, b1));
+        },
+        &mut || {
+            black_box(calls[2](black_box(chart), black_box(sheet), 2, b2));
+        },
+    ])
+}
+
 const MARKS: [Matrix; 3] = [archive::marks, same_shape::marks, words::marks];
 const SIMULATION: [Matrix; 3] = [archive::simulation, same_shape::simulation, words::simulation];
 
@@ -125,7 +146,7 @@ fn beside_rust() {
     for (question, calls) in [("marks", MARKS), ("simulation", SIMULATION)] {
         for (case, chart) in &charts {
             let (rounds, times) = matrix(chart, calls);
-            row(question, case, rounds, times);
+            row(question, case, &rounds.to_string(), times);
         }
     }
     let drawn = cases::drawn(64, 32, 1024);
@@ -138,7 +159,14 @@ fn beside_rust() {
         ("chain of 64, 200 nodes", cases::chain(64), cases::long_reach_rest()),
     ] {
         let (rounds, times) = property(&chart, &sheet);
-        row("property", case, rounds, times);
+        row("property", case, &rounds.to_string(), times);
+    }
+    for (case, chart, sheet) in [
+        ("E, its sheet, name 2", cases::e(), cases::e_sheet()),
+        ("E, 194 nodes nested, name 2", cases::e(), cases::closed_sheet(194)),
+        ("1,024 triples, 194 nodes nested, name 2", cases::drawn(64, 32, 1024), cases::closed_sheet(194)),
+    ] {
+        row("short form", case, "-", safe_path(&chart, &sheet));
     }
 }
 

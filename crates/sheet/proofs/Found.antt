@@ -261,6 +261,10 @@ pub formula-found : (fuel : ℕ) (s : List ℕ) (m at left : ℕ) (f : Formula) 
 unfolding ParseFound
 formula-found fuel s m at left f after rest e = rw e at (parse-found fuel s m at left)
 
+pub fault-found : (fuel : ℕ) (s : List ℕ) (m at left : ℕ) (r : Refusal) → parse fuel s m at left ≡ wrong r → FaultBy (at + 2 * left) r
+unfolding ParseFound
+fault-found fuel s m at left r e = rw e at (parse-found fuel s m at left)
+
 pub formula-fewer : (fuel : ℕ) (s : List ℕ) (m at left : ℕ) (f : Formula) (after rest : ℕ) → parse fuel s m at left ≡ parsed f after rest → rest < left
 formula-fewer fuel s m at left f after rest e = omega (arith, formula-found fuel s m at left f after rest e .counted, nodes-positive f)
 

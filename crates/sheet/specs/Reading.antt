@@ -14,7 +14,6 @@ use Rattle.sheet.specs.Layout.{encode, WellFormed}
 use Rattle.sheet.specs.declared.Node.{Node}
 use Rattle.sheet.specs.declared.Node.the-variants.{Leaf, Two, One, Bad}
 use Rattle.sheet.specs.declared.FormulaRead.{FormulaRead}
-use Rattle.sheet.specs.declared.FormulaRead.the-variants as Told
 use Rattle.sheet.specs.declared.Outline.{Outline}
 use Rattle.sheet.specs.declared.SheetRead.{SheetRead}
 use Rattle.sheet.specs.declared.SheetRead.the-variants as Read
@@ -106,8 +105,8 @@ readSheet s m =
 -- ---- what the readers say of it, in numbers
 
 abbrev pub formulaRead : Parsed → FormulaRead
-formulaRead (parsed f at left) = Told.Formula at left
-formulaRead (wrong r) = Told.Wrong r
+formulaRead (parsed f at left) = record { fault = 0; at = at; left = left }
+formulaRead (wrong r) = record { fault = r .number; at = r .place; left = 0 }
 
 abbrev pub sheetRead : Sheet → SheetRead
 sheetRead (sheet kind count f) = Read.Sheet (record { kind = kind; nodes = count })

@@ -11,10 +11,11 @@ pub enum Node {
     Bad(Refusal),
 }
 
-// A formula that was read: the place after it, and the nodes still unread.
-pub enum FormulaRead {
-    Formula(usize, usize),
-    Wrong(Refusal),
+// What reading a formula finds: no fault (0), the place after it and the nodes still unread; or the number and the place of its first fault.
+pub struct FormulaRead {
+    pub fault: usize,
+    pub at: usize,
+    pub left: usize,
 }
 
 // The kind of an accepted sheet and how many nodes its formula has: the nodes stand from byte 3 on.
@@ -63,16 +64,31 @@ fn read_formula(bytes: &[u8], m: usize, at: usize, left: usize) -> FormulaRead
     ensures { λ r. ⌜ r ≡ formulaRead (parse left (now (bytes .entry)) m at left) ⌝ }
 {
     if left == 0 {
-        return FormulaRead::Wrong(refusal::of_sheet(13, at));
+        return FormulaRead {
+            fault: 13,
+            at,
+            left: 0,
+        };
     }
     match node_at(bytes, m, at) {
-        Node::Bad(r) => FormulaRead::Wrong(r),
-        Node::Leaf(_, next) => FormulaRead::Formula(next, left - 1),
-        Node::One(_, _, next) => read_formula(bytes, m, next, left - 1),
-        Node::Two(_, next) => match read_formula(bytes, m, next, left - 1) {
-            FormulaRead::Wrong(r) => FormulaRead::Wrong(r),
-            FormulaRead::Formula(after, rest) => read_formula(bytes, m, after, rest),
+        Node::Bad(r) => FormulaRead {
+            fault: r.number as usize,
+            at: r.place,
+            left: 0,
         },
+        Node::Leaf(_, next) => FormulaRead {
+            fault: 0,
+            at: next,
+            left: left - 1,
+        },
+        Node::One(_, _, next) => read_formula(bytes, m, next, left - 1),
+        Node::Two(_, next) => {
+            let first = read_formula(bytes, m, next, left - 1);
+            if first.fault != 0 {
+                return first;
+            }
+            read_formula(bytes, m, first.at, first.left)
+        }
     }
 }
 
@@ -90,18 +106,18 @@ fn read_nodes(bytes: &[u8], m: usize, kind: u8) -> SheetRead
     if 200 < nodes {
         return SheetRead::Refused(refusal::of_sheet(10, 2));
     }
-    match read_formula(bytes, m, 3, nodes) {
-        FormulaRead::Wrong(r) => SheetRead::Refused(r),
-        FormulaRead::Formula(after, rest) => {
-            if 0 < rest {
-                return SheetRead::Refused(refusal::of_sheet(13, after));
-            }
-            if after < bytes.len() {
-                return SheetRead::Refused(refusal::of_sheet(8, after));
-            }
-            SheetRead::Sheet(Outline { kind, nodes })
-        }
+    let found = read_formula(bytes, m, 3, nodes);
+    let after = found.at;
+    if found.fault != 0 {
+        return SheetRead::Refused(refusal::of_sheet(found.fault as u8, after));
     }
+    if 0 < found.left {
+        return SheetRead::Refused(refusal::of_sheet(13, after));
+    }
+    if after < bytes.len() {
+        return SheetRead::Refused(refusal::of_sheet(8, after));
+    }
+    SheetRead::Sheet(Outline { kind, nodes })
 }
 
 // The sheet in the bytes, for a chart of m actions, or the first fault.

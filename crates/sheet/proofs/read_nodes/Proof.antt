@@ -1,9 +1,10 @@
+use Prim.Native.Nat.{_≤_}
 use mathlib.Core.Path.{ap}
 use native.Mathlib.Omega.{arith}
-use borrow.Author.Tests.{le-ltb, lt-ltb, le-leb, lt-leb}
+use borrow.Author.Tests.{le-ltb, lt-ltb, le-leb, lt-leb, eq-eqb, ne-eqb}
 use Rattle.sheet.specs.Reading.{readNodes}
 use Rattle.sheet.specs.declared.SheetRead.the-variants as Read
-use Rattle.sheet.proofs.Reading.{ending-read}
+use Rattle.sheet.proofs.Reading.{fault-few, ending-read}
 use borrow.Author.Needs.{needs}
 use Rattle.sheet.proofs.read_nodes.Statement.{statement}
 use Rattle.sheet.proofs.read_nodes.Tie as tie
@@ -38,33 +39,37 @@ returns-3 c = rw (lt-leb _ _ (c .before .before .before .before .if1 .left), le-
 read-formula-requires : tie.Need-read-formula-requires
 read-formula-requires c κs = search needs
 
-enum-known-r : tie.Need-enum-known-r
-enum-known-r c = search needs
-
-enum-known-after : tie.Need-enum-known-after
-enum-known-after c = search needs
+cast-of-sheet : tie.Need-cast-of-sheet
+cast-of-sheet c =
+    let a = c .before .before .before .before .before .before .before .before .before .args in
+    let found = c .before .before .before .read-formula in
+    let few : found .result .fault ≤ 13 = rw (found .ensures) (fault-few (a .bytes .now) (a .m) 3 _) in
+    omega arith
 
 of-sheet-requires-4 : tie.Need-of-sheet-requires-4
 of-sheet-requires-4 c κs = search needs
 
 returns-4 : tie.Need-returns-4
 unfolding readNodes
-returns-4 c = rw (lt-leb _ _ (c .before .before .before .before .before .before .before .before .before .if1 .left), le-ltb _ _ (c .before .before .before .before .before .before .before .if2 .left), le-ltb _ _ (c .before .before .before .before .before .before .if3 .left), ending-read, ← c .before .before .before .before .before .read-formula .ensures, c .before .before .before .after .given .1, lt-ltb _ _ (c .before .if4 .taken)) (ap Read.Refused (c .of-sheet4 .ensures))
+returns-4 c = rw (lt-leb _ _ (c .before .before .before .before .before .before .before .before .if1 .left), le-ltb _ _ (c .before .before .before .before .before .before .if2 .left), le-ltb _ _ (c .before .before .before .before .before .if3 .left), ending-read, ← c .before .before .before .before .read-formula .ensures, ne-eqb _ _ (c .before .before .if4 .taken)) (ap Read.Refused (c .of-sheet4 .ensures))
 
 of-sheet-requires-5 : tie.Need-of-sheet-requires-5
 of-sheet-requires-5 c κs = search needs
 
 returns-5 : tie.Need-returns-5
 unfolding readNodes
-returns-5 c = rw (lt-leb _ _ (c .before .before .before .before .before .before .before .before .before .before .if1 .left), le-ltb _ _ (c .before .before .before .before .before .before .before .before .if2 .left), le-ltb _ _ (c .before .before .before .before .before .before .before .if3 .left), ending-read, ← c .before .before .before .before .before .before .read-formula .ensures, c .before .before .before .before .after .given .1, le-ltb _ _ (c .before .before .if4 .left), lt-ltb _ _ (c .before .if5 .taken)) (ap Read.Refused (c .of-sheet5 .ensures))
+returns-5 c = rw (lt-leb _ _ (c .before .before .before .before .before .before .before .before .before .if1 .left), le-ltb _ _ (c .before .before .before .before .before .before .before .if2 .left), le-ltb _ _ (c .before .before .before .before .before .before .if3 .left), ending-read, ← c .before .before .before .before .before .read-formula .ensures, eq-eqb _ _ (c .before .before .before .if4 .left), lt-ltb _ _ (c .before .if5 .taken)) (ap Read.Refused (c .of-sheet5 .ensures))
+
+of-sheet-requires-6 : tie.Need-of-sheet-requires-6
+of-sheet-requires-6 c κs = search needs
 
 returns-6 : tie.Need-returns-6
 unfolding readNodes
-returns-6 c = rw (lt-leb _ _ (c .before .before .before .before .before .before .before .if1 .left), le-ltb _ _ (c .before .before .before .before .before .if2 .left), le-ltb _ _ (c .before .before .before .before .if3 .left), ending-read, ← c .before .before .before .read-formula .ensures, c .before .r .given .1)
+returns-6 c = rw (lt-leb _ _ (c .before .before .before .before .before .before .before .before .before .before .if1 .left), le-ltb _ _ (c .before .before .before .before .before .before .before .before .if2 .left), le-ltb _ _ (c .before .before .before .before .before .before .before .if3 .left), ending-read, ← c .before .before .before .before .before .before .read-formula .ensures, eq-eqb _ _ (c .before .before .before .before .if4 .left), le-ltb _ _ (c .before .before .if5 .left), lt-ltb _ _ (c .before .if6 .taken)) (ap Read.Refused (c .of-sheet6 .ensures))
 
 returns-7 : tie.Need-returns-7
 unfolding readNodes
-returns-7 c = rw (lt-leb _ _ (c .before .before .before .before .before .before .before .before .before .if1 .left), le-ltb _ _ (c .before .before .before .before .before .before .before .if2 .left), le-ltb _ _ (c .before .before .before .before .before .before .if3 .left), ending-read, ← c .before .before .before .before .before .read-formula .ensures, c .before .before .before .after .given .1, le-ltb _ _ (c .before .if4 .left), le-ltb _ _ (c .if5 .left))
+returns-7 c = rw (lt-leb _ _ (c .before .before .before .before .before .before .before .before .before .if1 .left), le-ltb _ _ (c .before .before .before .before .before .before .before .if2 .left), le-ltb _ _ (c .before .before .before .before .before .before .if3 .left), ending-read, ← c .before .before .before .before .before .read-formula .ensures, eq-eqb _ _ (c .before .before .before .if4 .left), le-ltb _ _ (c .before .if5 .left), le-ltb _ _ (c .if6 .left))
 
 pub read-nodes-spec : {M : Type 1} → statement M
 read-nodes-spec =
@@ -79,11 +84,11 @@ read-nodes-spec =
     of-sheet-requires-3
     returns-3
     read-formula-requires
-    enum-known-r
-    enum-known-after
+    cast-of-sheet
     of-sheet-requires-4
     returns-4
     of-sheet-requires-5
     returns-5
+    of-sheet-requires-6
     returns-6
     returns-7)
