@@ -276,7 +276,6 @@ pub record SheetAt (s : List ℕ) (m kind count : ℕ) (f : Formula) : Type 0 wh
   pub kind-is : getD s 1 0 ≡ kind
   pub kind-known : kind ≤ 2
   pub count-is : getD s 2 0 ≡ count
-  pub count-some : 1 ≤ count
   pub count-few : count ≤ 200
   pub after : ℕ
   pub formula-is : parse count s m 3 count ≡ parsed f after 0
@@ -298,13 +297,13 @@ sheet-found s m =
     by-test found (leb (length s) 2) (λ h. absent (length s) (omega (arith, leb-true (length s) 2 h))) (λ h₄.
     by-test found (ltb count 1) (λ h. fault 10 2 (omega arith) (omega arith) (omega arith)) (λ h₅.
     by-test found (ltb 200 count) (λ h. fault 10 2 (omega arith) (omega arith) (omega arith)) (λ h₆.
-    end h₁ h₃ h₄ h₅ h₆ (parse count s m 3 count) refl (parse-found count s m 3 count)))))))
+    end h₁ h₃ h₄ h₆ (parse count s m 3 count) refl (parse-found count s m 3 count)))))))
     (λ h. fault 9 0 (omega arith) (omega arith) (omega arith)))
   where
-    end : eqb (getD s 0 0) 1 ≡ true → ltb 2 (getD s 1 0) ≡ false → leb (length s) 2 ≡ false → ltb (getD s 2 0) 1 ≡ false → ltb 200 (getD s 2 0) ≡ false
+    end : eqb (getD s 0 0) 1 ≡ true → ltb 2 (getD s 1 0) ≡ false → leb (length s) 2 ≡ false → ltb 200 (getD s 2 0) ≡ false
         → (p : Parsed) → parse (getD s 2 0) s m 3 (getD s 2 0) ≡ p → ParseFound s m 3 (getD s 2 0) p → SheetFound s m (ending s (getD s 1 0) (getD s 2 0) p)
-    end h₁ h₃ h₄ h₅ h₆ (wrong r) e k = nearer (omega (arith, ltb-false 200 (getD s 2 0) h₆)) k
-    end h₁ h₃ h₄ h₅ h₆ (parsed f after left) e k =
+    end h₁ h₃ h₄ h₆ (wrong r) e k = nearer (omega (arith, ltb-false 200 (getD s 2 0) h₆)) k
+    end h₁ h₃ h₄ h₆ (parsed f after left) e k =
         let few : after ≤ 403 = omega (arith, ltb-false 200 (getD s 2 0) h₆, bytes-few f, k .stands .next, k .counted) in
         by-test (SheetFound s m) (ltb 0 left) (λ h. fault 13 after (omega arith) (omega arith) few) (λ h₇.
         by-test (SheetFound s m) (ltb after (length s)) (λ h. fault 8 after (omega arith) (omega arith) few) (λ h₈.
@@ -315,7 +314,6 @@ sheet-found s m =
           kind-is = refl;
           kind-known = ltb-false _ _ h₃;
           count-is = refl;
-          count-some = ltb-false _ _ h₅;
           count-few = ltb-false _ _ h₆;
           after = after;
           formula-is = rw z at e;
