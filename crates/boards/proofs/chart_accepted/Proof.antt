@@ -13,10 +13,20 @@ enum-known-shape : tie.Need-enum-known-shape
 enum-known-shape c = search needs
 
 returns : tie.Need-returns
-returns c = rw (← c .before .before .before .before .before .before .before .before .read-chart .ensures .0, c .before .before .before .before .before .before .shape .given .1, eq-eqb _ _ (c .before .before .before .if1 .taken), eq-eqb _ _ (c .before .if2 .taken))
+returns c = rw (
+  ← c .before .before .before .before .before .before .before .before .read-chart .ensures .0,
+  c .before .before .before .before .before .before .shape .given .1,
+  eq-eqb _ _ (c .before .before .before .if1 .taken),
+  eq-eqb _ _ (c .before .if2 .taken),
+)
 
 returns-2 : tie.Need-returns-2
-returns-2 c = rw (← c .before .before .before .before .before .before .before .read-chart .ensures .0, c .before .before .before .before .before .shape .given .1, eq-eqb _ _ (c .before .before .if1 .taken), ne-eqb _ _ (c .if2 .left))
+returns-2 c = rw (
+  ← c .before .before .before .before .before .before .before .read-chart .ensures .0,
+  c .before .before .before .before .before .shape .given .1,
+  eq-eqb _ _ (c .before .before .if1 .taken),
+  ne-eqb _ _ (c .if2 .left),
+)
 
 returns-3 : tie.Need-returns-3
 returns-3 c = rw (← c .before .before .read-chart .ensures .0, c .enum-told .given .1)

@@ -13,7 +13,11 @@ enum-known-outline : tie.Need-enum-known-outline
 enum-known-outline c = search needs
 
 returns : tie.Need-returns
-returns c = rw (← c .before .before .before .before .before .before .read-sheet .ensures .0, c .before .before .before .before .outline .given .1, eq-eqb _ _ (c .before .if1 .taken))
+returns c = rw (
+  ← c .before .before .before .before .before .before .read-sheet .ensures .0,
+  c .before .before .before .before .outline .given .1,
+  eq-eqb _ _ (c .before .if1 .taken),
+)
 
 returns-2 : tie.Need-returns-2
 returns-2 c = rw (← c .before .before .read-sheet .ensures .0, c .enum-told .given .1)

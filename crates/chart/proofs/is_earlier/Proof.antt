@@ -49,7 +49,12 @@ shared-slice-read-if4-2 : tie.Need-shared-slice-read-if4-2
 shared-slice-read-if4-2 c = search needs
 
 returns-4 : tie.Need-returns-4
-returns-4 c = rw (le-ltb _ _ (c .before .before .before .before .before .before .before .before .before .if1 .left), le-ltb _ _ (c .before .before .before .before .before .before .if2 .left), le-ltb _ _ (c .before .before .before .if3 .left), lt-ltb _ _ (c .if4 .taken))
+returns-4 c = rw (
+  le-ltb _ _ (c .before .before .before .before .before .before .before .before .before .if1 .left),
+  le-ltb _ _ (c .before .before .before .before .before .before .if2 .left),
+  le-ltb _ _ (c .before .before .before .if3 .left),
+  lt-ltb _ _ (c .if4 .taken),
+)
 
 add-result : tie.Need-add-result
 add-result c = search needs
@@ -64,7 +69,12 @@ shared-slice-read-result-2 : tie.Need-shared-slice-read-result-2
 shared-slice-read-result-2 c = search needs
 
 returns-5 : tie.Need-returns-5
-returns-5 c = rw (le-ltb _ _ (c .before .before .before .before .before .before .before .before .before .before .before .if1 .left), le-ltb _ _ (c .before .before .before .before .before .before .before .before .if2 .left), le-ltb _ _ (c .before .before .before .before .before .if3 .left), le-ltb _ _ (c .before .before .if4 .left))
+returns-5 c = rw (
+  le-ltb _ _ (c .before .before .before .before .before .before .before .before .before .before .before .if1 .left),
+  le-ltb _ _ (c .before .before .before .before .before .before .before .before .if2 .left),
+  le-ltb _ _ (c .before .before .before .before .before .if3 .left),
+  le-ltb _ _ (c .before .before .if4 .left),
+)
 
 pub is-earlier-spec : {M : Type 1} → statement M
 is-earlier-spec =

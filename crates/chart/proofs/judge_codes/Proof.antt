@@ -34,7 +34,13 @@ enum-known-r : tie.Need-enum-known-r Inv-loop μ-loop
 enum-known-r c = search needs
 
 returns-2 : tie.Need-returns-2 Inv-loop μ-loop
-returns-2 c = rw (c .before .before .before .before .before .before .loop .inv .0, codes-step _ _ _ _ (c .before .before .before .before .before .loop-test .taken), lt-leb _ _ (c .before .before .before .before .if1 .left), ← c .before .before .before .code-order .ensures, c .before .r .given .1)
+returns-2 c = rw (
+  c .before .before .before .before .before .before .loop .inv .0,
+  codes-step _ _ _ _ (c .before .before .before .before .before .loop-test .taken),
+  lt-leb _ _ (c .before .before .before .before .if1 .left),
+  ← c .before .before .before .code-order .ensures,
+  c .before .r .given .1,
+)
 
 add-p : tie.Need-add-p Inv-loop μ-loop
 add-p c = search needs
@@ -46,7 +52,16 @@ loop-less : tie.Need-loop-less Inv-loop μ-loop
 loop-less c = search needs
 
 loop-again : tie.Need-loop-again Inv-loop μ-loop
-loop-again c = (rw (c .before .before .before .before .before .loop .inv .0, codes-step _ _ _ _ (c .before .before .before .before .loop-test .taken), lt-leb _ _ (c .before .before .before .if1 .left), ← c .before .before .code-order .ensures, c .enum-told .given .1), omega arith)
+loop-again c = (
+  rw (
+    c .before .before .before .before .before .loop .inv .0,
+    codes-step _ _ _ _ (c .before .before .before .before .loop-test .taken),
+    lt-leb _ _ (c .before .before .before .if1 .left),
+    ← c .before .before .code-order .ensures,
+    c .enum-told .given .1,
+  ),
+  omega arith,
+)
 
 returns-3 : tie.Need-returns-3 Inv-loop μ-loop
 returns-3 c = rw (c .before .loop .inv .0, codes-none _ _ _ _ (c .loop-test .left))

@@ -30,7 +30,12 @@ enum-known-r-2 : tie.Need-enum-known-r-2
 enum-known-r-2 c = search needs
 
 returns-2 : tie.Need-returns-2
-returns-2 c = rw (← c .before .before .before .before .before .before .judge-byte .ensures, c .before .before .before .before .enum-told .given .1, ← c .before .before .before .judge-byte2 .ensures, c .before .r2 .given .1)
+returns-2 c = rw (
+  ← c .before .before .before .before .before .before .judge-byte .ensures,
+  c .before .before .before .before .enum-told .given .1,
+  ← c .before .before .before .judge-byte2 .ensures,
+  c .before .r2 .given .1,
+)
 
 add-judge-byte-2 : tie.Need-add-judge-byte-2
 add-judge-byte-2 c = omega (arith, byte-fine (c .before .before .before .before .before .before .before .args .bytes .now) _ _ (sym (c .before .before .judge-byte2 .ensures) ∙ c .enum-told2 .given .1))
@@ -45,13 +50,27 @@ enum-known-r-3 : tie.Need-enum-known-r-3
 enum-known-r-3 c = search needs
 
 returns-3 : tie.Need-returns-3
-returns-3 c = rw (← c .before .before .before .before .before .before .before .before .before .judge-byte .ensures, c .before .before .before .before .before .before .before .enum-told .given .1, ← c .before .before .before .before .before .before .judge-byte2 .ensures, c .before .before .before .before .enum-told2 .given .1, ← c .before .before .before .judge-byte3 .ensures, c .before .r3 .given .1)
+returns-3 c = rw (
+  ← c .before .before .before .before .before .before .before .before .before .judge-byte .ensures,
+  c .before .before .before .before .before .before .before .enum-told .given .1,
+  ← c .before .before .before .before .before .before .judge-byte2 .ensures,
+  c .before .before .before .before .enum-told2 .given .1,
+  ← c .before .before .before .judge-byte3 .ensures,
+  c .before .r3 .given .1,
+)
 
 triple-order-requires : tie.Need-triple-order-requires
 triple-order-requires c κs = omega (arith, byte-fine (c .before .before .before .before .before .before .before .before .before .before .args .bytes .now) _ _ (sym (c .before .before .judge-byte3 .ensures) ∙ c .enum-told3 .given .1))
 
 returns-4 : tie.Need-returns-4
-returns-4 c = rw (← c .before .before .before .before .before .before .before .before .before .judge-byte .ensures, c .before .before .before .before .before .before .before .enum-told .given .1, ← c .before .before .before .before .before .before .judge-byte2 .ensures, c .before .before .before .before .enum-told2 .given .1, ← c .before .before .before .judge-byte3 .ensures, c .before .enum-told3 .given .1) (c .triple-order .ensures)
+returns-4 c = rw (
+  ← c .before .before .before .before .before .before .before .before .before .judge-byte .ensures,
+  c .before .before .before .before .before .before .before .enum-told .given .1,
+  ← c .before .before .before .before .before .before .judge-byte2 .ensures,
+  c .before .before .before .before .enum-told2 .given .1,
+  ← c .before .before .before .judge-byte3 .ensures,
+  c .before .enum-told3 .given .1,
+) (c .triple-order .ensures)
 
 pub judge-triple-spec : {M : Type 1} → statement M
 judge-triple-spec =

@@ -27,7 +27,12 @@ enum-known-r : tie.Need-enum-known-r Inv-loop μ-loop
 enum-known-r c = search needs
 
 returns : tie.Need-returns Inv-loop μ-loop
-returns c = rw (c .before .before .before .before .before .loop .inv .0, triples-step _ _ _ _ _ _ (c .before .before .before .before .loop-test .taken), ← c .before .before .before .judge-triple .ensures, c .before .r .given .1)
+returns c = rw (
+  c .before .before .before .before .before .loop .inv .0,
+  triples-step _ _ _ _ _ _ (c .before .before .before .before .loop-test .taken),
+  ← c .before .before .before .judge-triple .ensures,
+  c .before .r .given .1,
+)
 
 add-p : tie.Need-add-p Inv-loop μ-loop
 add-p c = omega (arith, triple-fine (c .before .before .before .before .before .before .args .bytes .now) (c .before .before .before .before .before .before .args .n) (c .before .before .before .before .before .before .args .m) (c .before .before .before .before .loop .p) (c .before .before .before .before .loop .i) (sym (c .before .before .judge-triple .ensures) ∙ c .enum-told .given .1) .0)
@@ -39,7 +44,15 @@ loop-less : tie.Need-loop-less Inv-loop μ-loop
 loop-less c = search needs
 
 loop-again : tie.Need-loop-again Inv-loop μ-loop
-loop-again c = (rw (c .before .before .before .before .loop .inv .0, triples-step _ _ _ _ _ _ (c .before .before .before .loop-test .taken), ← c .before .before .judge-triple .ensures, c .enum-told .given .1), omega arith)
+loop-again c = (
+  rw (
+    c .before .before .before .before .loop .inv .0,
+    triples-step _ _ _ _ _ _ (c .before .before .before .loop-test .taken),
+    ← c .before .before .judge-triple .ensures,
+    c .enum-told .given .1,
+  ),
+  omega arith,
+)
 
 returns-2 : tie.Need-returns-2 Inv-loop μ-loop
 returns-2 c = rw (c .before .loop .inv .0, triples-none _ _ _ _ _ _ (c .loop-test .left))

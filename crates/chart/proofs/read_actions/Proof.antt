@@ -48,11 +48,21 @@ enum-known-r c = search needs
 
 returns-3 : tie.Need-returns-3
 unfolding readActions
-returns-3 c = rw (lt-leb _ _ (c .before .before .before .before .before .before .if1 .left), le-ltb _ _ (c .before .before .before .before .if2 .left), ← c .before .before .before .judge-codes .ensures, c .before .enum-told .given .1) (c .read-transitions .ensures)
+returns-3 c = rw (
+  lt-leb _ _ (c .before .before .before .before .before .before .if1 .left),
+  le-ltb _ _ (c .before .before .before .before .if2 .left),
+  ← c .before .before .before .judge-codes .ensures,
+  c .before .enum-told .given .1,
+) (c .read-transitions .ensures)
 
 returns-4 : tie.Need-returns-4
 unfolding readActions
-returns-4 c = rw (lt-leb _ _ (c .before .before .before .before .before .before .if1 .left), le-ltb _ _ (c .before .before .before .before .if2 .left), ← c .before .before .before .judge-codes .ensures, c .before .r .given .1)
+returns-4 c = rw (
+  lt-leb _ _ (c .before .before .before .before .before .before .if1 .left),
+  le-ltb _ _ (c .before .before .before .before .if2 .left),
+  ← c .before .before .before .judge-codes .ensures,
+  c .before .r .given .1,
+)
 
 pub read-actions-spec : {M : Type 1} → statement M
 read-actions-spec =

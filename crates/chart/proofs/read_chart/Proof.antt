@@ -24,21 +24,36 @@ of-chart-requires-2 c κs = search needs
 
 returns-2 : tie.Need-returns-2
 unfolding readChart
-returns-2 c = read-exactly (c .before .before .before .before .before .args .bytes .now) (λ i. omega (arith, c .before .before .before .before .shared-slice-known .given i)) (rw (lt-leb _ _ (c .before .before .before .if1 .left), lt-ltb _ _ (c .before .if2 .taken), c .of-chart2 .ensures))
+returns-2 c = read-exactly (c .before .before .before .before .before .args .bytes .now) (λ i. omega (arith, c .before .before .before .before .shared-slice-known .given i)) (rw (
+  lt-leb _ _ (c .before .before .before .if1 .left),
+  lt-ltb _ _ (c .before .if2 .taken),
+  c .of-chart2 .ensures,
+))
 
 of-chart-requires-3 : tie.Need-of-chart-requires-3
 of-chart-requires-3 c κs = search needs
 
 returns-3 : tie.Need-returns-3
 unfolding readChart
-returns-3 c = read-exactly (c .before .before .before .before .before .before .args .bytes .now) (λ i. omega (arith, c .before .before .before .before .before .shared-slice-known .given i)) (rw (lt-leb _ _ (c .before .before .before .before .if1 .left), le-ltb _ _ (c .before .before .if2 .left), lt-ltb _ _ (c .before .if3 .taken), c .of-chart3 .ensures))
+returns-3 c = read-exactly (c .before .before .before .before .before .before .args .bytes .now) (λ i. omega (arith, c .before .before .before .before .before .shared-slice-known .given i)) (rw (
+  lt-leb _ _ (c .before .before .before .before .if1 .left),
+  le-ltb _ _ (c .before .before .if2 .left),
+  lt-ltb _ _ (c .before .if3 .taken),
+  c .of-chart3 .ensures,
+))
 
 of-chart-requires-4 : tie.Need-of-chart-requires-4
 of-chart-requires-4 c κs = search needs
 
 returns-4 : tie.Need-returns-4
 unfolding readChart
-returns-4 c = read-exactly (c .before .before .before .before .before .before .before .args .bytes .now) (λ i. omega (arith, c .before .before .before .before .before .before .shared-slice-known .given i)) (rw (lt-leb _ _ (c .before .before .before .before .before .if1 .left), le-ltb _ _ (c .before .before .before .if2 .left), le-ltb _ _ (c .before .before .if3 .left), le-leb _ _ (c .before .if4 .taken), c .of-chart4 .ensures))
+returns-4 c = read-exactly (c .before .before .before .before .before .before .before .args .bytes .now) (λ i. omega (arith, c .before .before .before .before .before .before .shared-slice-known .given i)) (rw (
+  lt-leb _ _ (c .before .before .before .before .before .if1 .left),
+  le-ltb _ _ (c .before .before .before .if2 .left),
+  le-ltb _ _ (c .before .before .if3 .left),
+  le-leb _ _ (c .before .if4 .taken),
+  c .of-chart4 .ensures,
+))
 
 add-read-actions : tie.Need-add-read-actions
 add-read-actions c = search needs
@@ -48,7 +63,12 @@ read-actions-requires c κs = search needs
 
 returns-5 : tie.Need-returns-5
 unfolding readChart
-returns-5 c = read-exactly (c .before .before .before .before .before .before .before .args .bytes .now) (λ i. omega (arith, c .before .before .before .before .before .before .shared-slice-known .given i)) (rw (lt-leb _ _ (c .before .before .before .before .before .if1 .left), le-ltb _ _ (c .before .before .before .if2 .left), le-ltb _ _ (c .before .before .if3 .left), lt-leb _ _ (c .before .if4 .left)) (c .read-actions .ensures))
+returns-5 c = read-exactly (c .before .before .before .before .before .before .before .args .bytes .now) (λ i. omega (arith, c .before .before .before .before .before .before .shared-slice-known .given i)) (rw (
+  lt-leb _ _ (c .before .before .before .before .before .if1 .left),
+  le-ltb _ _ (c .before .before .before .if2 .left),
+  le-ltb _ _ (c .before .before .if3 .left),
+  lt-leb _ _ (c .before .if4 .left),
+) (c .read-actions .ensures))
 
 pub read-chart-spec : {M : Type 1} → statement M
 read-chart-spec =

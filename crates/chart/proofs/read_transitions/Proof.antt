@@ -46,7 +46,12 @@ of-chart-requires-3 c κs = search needs
 
 returns-3 : tie.Need-returns-3
 unfolding readTransitions
-returns-3 c = rw (lt-leb _ _ (c .before .before .before .before .before .if1 .left), lt-leb _ _ (c .before .before .before .before .if2 .left), lt-ltb _ _ (c .before .if3 .taken), c .of-chart3 .ensures)
+returns-3 c = rw (
+  lt-leb _ _ (c .before .before .before .before .before .if1 .left),
+  lt-leb _ _ (c .before .before .before .before .if2 .left),
+  lt-ltb _ _ (c .before .if3 .taken),
+  c .of-chart3 .ensures,
+)
 
 add-judge-triples : tie.Need-add-judge-triples
 add-judge-triples c = search needs
@@ -62,7 +67,13 @@ enum-known-r c = search needs
 
 returns-4 : tie.Need-returns-4
 unfolding readTransitions
-returns-4 c = rw (lt-leb _ _ (c .before .before .before .before .before .before .before .before .if1 .left), lt-leb _ _ (c .before .before .before .before .before .before .before .if2 .left), le-ltb _ _ (c .before .before .before .before .if3 .left), ← c .before .before .before .judge-triples .ensures, c .before .r .given .1)
+returns-4 c = rw (
+  lt-leb _ _ (c .before .before .before .before .before .before .before .before .if1 .left),
+  lt-leb _ _ (c .before .before .before .before .before .before .before .if2 .left),
+  le-ltb _ _ (c .before .before .before .before .if3 .left),
+  ← c .before .before .before .judge-triples .ensures,
+  c .before .r .given .1,
+)
 
 add-end : tie.Need-add-end
 add-end c = search needs
@@ -78,11 +89,26 @@ of-chart-requires-4 c κs = search needs
 
 returns-5 : tie.Need-returns-5
 unfolding readTransitions
-returns-5 c = rw (lt-leb _ _ (c .before .before .before .before .before .before .before .before .before .if1 .left), lt-leb _ _ (c .before .before .before .before .before .before .before .before .if2 .left), le-ltb _ _ (c .before .before .before .before .before .if3 .left), ← c .before .before .before .before .judge-triples .ensures, c .before .before .enum-told .given .1, lt-ltb _ _ (c .before .if4 .taken), c .of-chart4 .ensures)
+returns-5 c = rw (
+  lt-leb _ _ (c .before .before .before .before .before .before .before .before .before .if1 .left),
+  lt-leb _ _ (c .before .before .before .before .before .before .before .before .if2 .left),
+  le-ltb _ _ (c .before .before .before .before .before .if3 .left),
+  ← c .before .before .before .before .judge-triples .ensures,
+  c .before .before .enum-told .given .1,
+  lt-ltb _ _ (c .before .if4 .taken),
+  c .of-chart4 .ensures,
+)
 
 returns-6 : tie.Need-returns-6
 unfolding readTransitions
-returns-6 c = rw (lt-leb _ _ (c .before .before .before .before .before .before .before .before .if1 .left), lt-leb _ _ (c .before .before .before .before .before .before .before .if2 .left), le-ltb _ _ (c .before .before .before .before .if3 .left), ← c .before .before .before .judge-triples .ensures, c .before .enum-told .given .1, le-ltb _ _ (c .if4 .left))
+returns-6 c = rw (
+  lt-leb _ _ (c .before .before .before .before .before .before .before .before .if1 .left),
+  lt-leb _ _ (c .before .before .before .before .before .before .before .if2 .left),
+  le-ltb _ _ (c .before .before .before .before .if3 .left),
+  ← c .before .before .before .judge-triples .ensures,
+  c .before .enum-told .given .1,
+  le-ltb _ _ (c .if4 .left),
+)
 
 pub read-transitions-spec : {M : Type 1} → statement M
 read-transitions-spec =

@@ -37,7 +37,12 @@ of-sheet-requires-2 c κs = search needs
 
 returns-4 : tie.Need-returns-4
 unfolding nodeAt
-returns-4 c = rw (lt-leb _ _ (c .before .before .before .before .before .if1 .left), le-ltb _ _ (c .before .before .before .if2 .left), le-ltb _ _ (c .before .before .if3 .left), lt-ltb _ _ (c .before .if4 .taken)) (ap Bad (c .of-sheet2 .ensures))
+returns-4 c = rw (
+  lt-leb _ _ (c .before .before .before .before .before .if1 .left),
+  le-ltb _ _ (c .before .before .before .if2 .left),
+  le-ltb _ _ (c .before .before .if3 .left),
+  lt-ltb _ _ (c .before .if4 .taken),
+) (ap Bad (c .of-sheet2 .ensures))
 
 add-if5 : tie.Need-add-if5
 add-if5 c = search needs
@@ -47,7 +52,13 @@ of-sheet-requires-3 c κs = search needs
 
 returns-5 : tie.Need-returns-5
 unfolding nodeAt
-returns-5 c = rw (lt-leb _ _ (c .before .before .before .before .before .before .if1 .left), le-ltb _ _ (c .before .before .before .before .if2 .left), le-ltb _ _ (c .before .before .before .if3 .left), le-ltb _ _ (c .before .before .if4 .left), le-leb _ _ (c .before .if5 .taken)) (ap Bad (c .of-sheet3 .ensures))
+returns-5 c = rw (
+  lt-leb _ _ (c .before .before .before .before .before .before .if1 .left),
+  le-ltb _ _ (c .before .before .before .before .if2 .left),
+  le-ltb _ _ (c .before .before .before .if3 .left),
+  le-ltb _ _ (c .before .before .if4 .left),
+  le-leb _ _ (c .before .if5 .taken),
+) (ap Bad (c .of-sheet3 .ensures))
 
 add-action : tie.Need-add-action
 add-action c = search needs
@@ -63,14 +74,29 @@ add-t19 c = search needs
 
 returns-6 : tie.Need-returns-6
 unfolding nodeAt
-returns-6 c = rw (lt-leb _ _ (c .before .before .before .before .before .before .before .if1 .left), le-ltb _ _ (c .before .before .before .before .before .if2 .left), le-ltb _ _ (c .before .before .before .before .if3 .left), le-ltb _ _ (c .before .before .before .if4 .left), lt-leb _ _ (c .before .before .if5 .left), lt-ltb _ _ (c .if6 .taken))
+returns-6 c = rw (
+  lt-leb _ _ (c .before .before .before .before .before .before .before .if1 .left),
+  le-ltb _ _ (c .before .before .before .before .before .if2 .left),
+  le-ltb _ _ (c .before .before .before .before .if3 .left),
+  le-ltb _ _ (c .before .before .before .if4 .left),
+  lt-leb _ _ (c .before .before .if5 .left),
+  lt-ltb _ _ (c .if6 .taken),
+)
 
 add-t20 : tie.Need-add-t20
 add-t20 c = search needs
 
 returns-7 : tie.Need-returns-7
 unfolding nodeAt
-returns-7 c = rw (lt-leb _ _ (c .before .before .before .before .before .before .before .before .if1 .left), le-ltb _ _ (c .before .before .before .before .before .before .if2 .left), le-ltb _ _ (c .before .before .before .before .before .if3 .left), le-ltb _ _ (c .before .before .before .before .if4 .left), lt-leb _ _ (c .before .before .before .if5 .left), le-ltb _ _ (c .before .if6 .left), eq-eqb _ _ (c .if7 .taken))
+returns-7 c = rw (
+  lt-leb _ _ (c .before .before .before .before .before .before .before .before .if1 .left),
+  le-ltb _ _ (c .before .before .before .before .before .before .if2 .left),
+  le-ltb _ _ (c .before .before .before .before .before .if3 .left),
+  le-ltb _ _ (c .before .before .before .before .if4 .left),
+  lt-leb _ _ (c .before .before .before .if5 .left),
+  le-ltb _ _ (c .before .if6 .left),
+  eq-eqb _ _ (c .if7 .taken),
+)
 
 add-of-sheet : tie.Need-add-of-sheet
 add-of-sheet c = search needs
@@ -80,7 +106,15 @@ of-sheet-requires-4 c κs = search needs
 
 returns-8 : tie.Need-returns-8
 unfolding nodeAt
-returns-8 c = rw (lt-leb _ _ (c .before .before .before .before .before .before .before .before .before .if1 .left), le-ltb _ _ (c .before .before .before .before .before .before .before .if2 .left), le-ltb _ _ (c .before .before .before .before .before .before .if3 .left), le-ltb _ _ (c .before .before .before .before .before .if4 .left), lt-leb _ _ (c .before .before .before .before .if5 .left), le-ltb _ _ (c .before .before .if6 .left), ne-eqb _ _ (c .before .if7 .left)) (ap Bad (c .of-sheet4 .ensures))
+returns-8 c = rw (
+  lt-leb _ _ (c .before .before .before .before .before .before .before .before .before .if1 .left),
+  le-ltb _ _ (c .before .before .before .before .before .before .before .if2 .left),
+  le-ltb _ _ (c .before .before .before .before .before .before .if3 .left),
+  le-ltb _ _ (c .before .before .before .before .before .if4 .left),
+  lt-leb _ _ (c .before .before .before .before .if5 .left),
+  le-ltb _ _ (c .before .before .if6 .left),
+  ne-eqb _ _ (c .before .if7 .left),
+) (ap Bad (c .of-sheet4 .ensures))
 
 pub node-at-spec : {M : Type 1} → statement M
 node-at-spec =

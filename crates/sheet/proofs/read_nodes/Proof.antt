@@ -34,7 +34,11 @@ of-sheet-requires-3 c κs = search needs
 
 returns-3 : tie.Need-returns-3
 unfolding readNodes
-returns-3 c = rw (lt-leb _ _ (c .before .before .before .before .if1 .left), le-ltb _ _ (c .before .before .if2 .left), lt-ltb _ _ (c .before .if3 .taken)) (ap Read.Refused (c .of-sheet3 .ensures))
+returns-3 c = rw (
+  lt-leb _ _ (c .before .before .before .before .if1 .left),
+  le-ltb _ _ (c .before .before .if2 .left),
+  lt-ltb _ _ (c .before .if3 .taken),
+) (ap Read.Refused (c .of-sheet3 .ensures))
 
 read-formula-requires : tie.Need-read-formula-requires
 read-formula-requires c κs = search needs
@@ -51,25 +55,58 @@ of-sheet-requires-4 c κs = search needs
 
 returns-4 : tie.Need-returns-4
 unfolding readNodes
-returns-4 c = rw (lt-leb _ _ (c .before .before .before .before .before .before .before .before .if1 .left), le-ltb _ _ (c .before .before .before .before .before .before .if2 .left), le-ltb _ _ (c .before .before .before .before .before .if3 .left), ending-read, ← c .before .before .before .before .read-formula .ensures, ne-eqb _ _ (c .before .before .if4 .taken)) (ap Read.Refused (c .of-sheet4 .ensures))
+returns-4 c = rw (
+  lt-leb _ _ (c .before .before .before .before .before .before .before .before .if1 .left),
+  le-ltb _ _ (c .before .before .before .before .before .before .if2 .left),
+  le-ltb _ _ (c .before .before .before .before .before .if3 .left),
+  ending-read,
+  ← c .before .before .before .before .read-formula .ensures,
+  ne-eqb _ _ (c .before .before .if4 .taken),
+) (ap Read.Refused (c .of-sheet4 .ensures))
 
 of-sheet-requires-5 : tie.Need-of-sheet-requires-5
 of-sheet-requires-5 c κs = search needs
 
 returns-5 : tie.Need-returns-5
 unfolding readNodes
-returns-5 c = rw (lt-leb _ _ (c .before .before .before .before .before .before .before .before .before .if1 .left), le-ltb _ _ (c .before .before .before .before .before .before .before .if2 .left), le-ltb _ _ (c .before .before .before .before .before .before .if3 .left), ending-read, ← c .before .before .before .before .before .read-formula .ensures, eq-eqb _ _ (c .before .before .before .if4 .left), lt-ltb _ _ (c .before .if5 .taken)) (ap Read.Refused (c .of-sheet5 .ensures))
+returns-5 c = rw (
+  lt-leb _ _ (c .before .before .before .before .before .before .before .before .before .if1 .left),
+  le-ltb _ _ (c .before .before .before .before .before .before .before .if2 .left),
+  le-ltb _ _ (c .before .before .before .before .before .before .if3 .left),
+  ending-read,
+  ← c .before .before .before .before .before .read-formula .ensures,
+  eq-eqb _ _ (c .before .before .before .if4 .left),
+  lt-ltb _ _ (c .before .if5 .taken),
+) (ap Read.Refused (c .of-sheet5 .ensures))
 
 of-sheet-requires-6 : tie.Need-of-sheet-requires-6
 of-sheet-requires-6 c κs = search needs
 
 returns-6 : tie.Need-returns-6
 unfolding readNodes
-returns-6 c = rw (lt-leb _ _ (c .before .before .before .before .before .before .before .before .before .before .if1 .left), le-ltb _ _ (c .before .before .before .before .before .before .before .before .if2 .left), le-ltb _ _ (c .before .before .before .before .before .before .before .if3 .left), ending-read, ← c .before .before .before .before .before .before .read-formula .ensures, eq-eqb _ _ (c .before .before .before .before .if4 .left), le-ltb _ _ (c .before .before .if5 .left), lt-ltb _ _ (c .before .if6 .taken)) (ap Read.Refused (c .of-sheet6 .ensures))
+returns-6 c = rw (
+  lt-leb _ _ (c .before .before .before .before .before .before .before .before .before .before .if1 .left),
+  le-ltb _ _ (c .before .before .before .before .before .before .before .before .if2 .left),
+  le-ltb _ _ (c .before .before .before .before .before .before .before .if3 .left),
+  ending-read,
+  ← c .before .before .before .before .before .before .read-formula .ensures,
+  eq-eqb _ _ (c .before .before .before .before .if4 .left),
+  le-ltb _ _ (c .before .before .if5 .left),
+  lt-ltb _ _ (c .before .if6 .taken),
+) (ap Read.Refused (c .of-sheet6 .ensures))
 
 returns-7 : tie.Need-returns-7
 unfolding readNodes
-returns-7 c = rw (lt-leb _ _ (c .before .before .before .before .before .before .before .before .before .if1 .left), le-ltb _ _ (c .before .before .before .before .before .before .before .if2 .left), le-ltb _ _ (c .before .before .before .before .before .before .if3 .left), ending-read, ← c .before .before .before .before .before .read-formula .ensures, eq-eqb _ _ (c .before .before .before .if4 .left), le-ltb _ _ (c .before .if5 .left), le-ltb _ _ (c .if6 .left))
+returns-7 c = rw (
+  lt-leb _ _ (c .before .before .before .before .before .before .before .before .before .if1 .left),
+  le-ltb _ _ (c .before .before .before .before .before .before .before .if2 .left),
+  le-ltb _ _ (c .before .before .before .before .before .before .if3 .left),
+  ending-read,
+  ← c .before .before .before .before .before .read-formula .ensures,
+  eq-eqb _ _ (c .before .before .before .if4 .left),
+  le-ltb _ _ (c .before .if5 .left),
+  le-ltb _ _ (c .if6 .left),
+)
 
 pub read-nodes-spec : {M : Type 1} → statement M
 read-nodes-spec =

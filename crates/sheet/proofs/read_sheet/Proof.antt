@@ -29,7 +29,11 @@ of-sheet-requires-3 c κs = search needs
 
 returns-3 : tie.Need-returns-3
 unfolding readSheet
-returns-3 c = read-exactly (c .before .before .before .before .before .before .args .bytes .now) (c .before .before .before .before .before .before .args .m) (rw (lt-leb _ _ (c .before .before .before .before .if1 .left), eq-eqb _ _ (c .before .before .if2 .left), le-leb _ _ (c .before .if3 .taken)) (ap Read.Refused (c .of-sheet3 .ensures)))
+returns-3 c = read-exactly (c .before .before .before .before .before .before .args .bytes .now) (c .before .before .before .before .before .before .args .m) (rw (
+  lt-leb _ _ (c .before .before .before .before .if1 .left),
+  eq-eqb _ _ (c .before .before .if2 .left),
+  le-leb _ _ (c .before .if3 .taken),
+) (ap Read.Refused (c .of-sheet3 .ensures)))
 
 shared-slice-read-kind : tie.Need-shared-slice-read-kind
 shared-slice-read-kind c = search needs
@@ -39,14 +43,24 @@ of-sheet-requires-4 c κs = search needs
 
 returns-4 : tie.Need-returns-4
 unfolding readSheet
-returns-4 c = read-exactly (c .before .before .before .before .before .before .before .before .args .bytes .now) (c .before .before .before .before .before .before .before .before .args .m) (rw (lt-leb _ _ (c .before .before .before .before .before .before .if1 .left), eq-eqb _ _ (c .before .before .before .before .if2 .left), lt-leb _ _ (c .before .before .before .if3 .left), lt-ltb _ _ (c .before .if4 .taken)) (ap Read.Refused (c .of-sheet4 .ensures)))
+returns-4 c = read-exactly (c .before .before .before .before .before .before .before .before .args .bytes .now) (c .before .before .before .before .before .before .before .before .args .m) (rw (
+  lt-leb _ _ (c .before .before .before .before .before .before .if1 .left),
+  eq-eqb _ _ (c .before .before .before .before .if2 .left),
+  lt-leb _ _ (c .before .before .before .if3 .left),
+  lt-ltb _ _ (c .before .if4 .taken),
+) (ap Read.Refused (c .of-sheet4 .ensures)))
 
 read-nodes-requires : tie.Need-read-nodes-requires
 read-nodes-requires c κs = search needs
 
 returns-5 : tie.Need-returns-5
 unfolding readSheet
-returns-5 c = read-exactly (c .before .before .before .before .before .before .before .before .args .bytes .now) (c .before .before .before .before .before .before .before .before .args .m) (rw (lt-leb _ _ (c .before .before .before .before .before .before .if1 .left), eq-eqb _ _ (c .before .before .before .before .if2 .left), lt-leb _ _ (c .before .before .before .if3 .left), le-ltb _ _ (c .before .if4 .left)) (c .read-nodes .ensures))
+returns-5 c = read-exactly (c .before .before .before .before .before .before .before .before .args .bytes .now) (c .before .before .before .before .before .before .before .before .args .m) (rw (
+  lt-leb _ _ (c .before .before .before .before .before .before .if1 .left),
+  eq-eqb _ _ (c .before .before .before .before .if2 .left),
+  lt-leb _ _ (c .before .before .before .if3 .left),
+  le-ltb _ _ (c .before .if4 .left),
+) (c .read-nodes .ensures))
 
 pub read-sheet-spec : {M : Type 1} → statement M
 read-sheet-spec =

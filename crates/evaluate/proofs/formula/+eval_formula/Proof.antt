@@ -87,7 +87,11 @@ pub +eval-formula-spec : {M : Type 1} → statement M
     (λ c.
     let s = c .before .before .before .before .before .before .before .before in
     let a = s .args in
-    rw (c .joined-word .ensures, c .before .eval-formula2 .ensures, c .before .before .eval-formula .ensures) (sym (two-value (a .chart .now) (a .shape) (s .pre .1 .0) (a .set) (s .pre .1 .1 .1) (a .sheet .now) (a .at) (a .left) (s .pre .1 .1 .0) (c .before .before .before .before .if1 .left) (c .before .before .before .if2 .taken))))
+    rw (
+      c .joined-word .ensures,
+      c .before .eval-formula2 .ensures,
+      c .before .before .eval-formula .ensures,
+    ) (sym (two-value (a .chart .now) (a .shape) (s .pre .1 .0) (a .set) (s .pre .1 .1 .1) (a .sheet .now) (a .at) (a .left) (s .pre .1 .1 .0) (c .before .before .before .before .if1 .left) (c .before .before .before .if2 .taken))))
     -- one operand
     (λ c.
     let s = c .before .before .before .before .before in

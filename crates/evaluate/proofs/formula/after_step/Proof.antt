@@ -14,7 +14,12 @@ with-requires c κs = search needs
 
 returns : tie.Need-returns
 unfolding both
-returns c = rw (← c .before .before .before .before .asks .ensures, c .before .before .before .if1 .taken, ← c .before .before .has .ensures, c .before .if2 .taken) (c .with .ensures .0 (c .before .before .before .before .before .pre))
+returns c = rw (
+  ← c .before .before .before .before .asks .ensures,
+  c .before .before .before .if1 .taken,
+  ← c .before .before .has .ensures,
+  c .before .if2 .taken,
+) (c .with .ensures .0 (c .before .before .before .before .before .pre))
 
 returns-2 : tie.Need-returns-2
 unfolding both
