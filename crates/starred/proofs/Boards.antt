@@ -1,6 +1,6 @@
 -- Every starred board holds: each is a test that computes, and the test being true is what the board says.
 use Prim.Native.Nat.{ℕ, suc, _+_, _*_, _^_}
-use mathlib.Core.Path.{_≡_, refl, sym, _∙_}
+use mathlib.Core.Path.{_≡_, refl, sym, subst, _∙_}
 use mathlib.Core.Bool.{Bool, true, false, So}
 use mathlib.Core.List.{List, [], _∷_, List·Memᴰ as Mem}
 use mathlib.Core.Logic.{_↔_}
@@ -16,8 +16,10 @@ use Rattle.settle.proofs.Finite.{below-i, pairs-i}
 use Rattle.settle.proofs.Chain.{stops-e}
 use Rattle.chart.specs.Chart.{Chart, states, actions}
 use Rattle.chart.specs.Reading.{readChart, readActions, readTransitions, judgeCodes, judgeTriples, bytesAt, stepsAt, chartIn}
+use Rattle.chart.specs.declared.Shape.{Shape}
 use Rattle.chart.specs.declared.ChartRead.{ChartRead}
 use Rattle.chart.specs.declared.ChartRead.the-variants as Read
+use Rattle.chart.proofs.Accepted.{same-shape}
 use Rattle.sheet.specs.Formula.{Formula}
 use Rattle.sheet.specs.Meaning.{leaves, someStep, everyStep, someLabel, everyLabel, holds}
 use Rattle.sheet.specs.Solution.{applications}
@@ -162,3 +164,7 @@ good-holds (satisfies bytes sheetBytes word number rounds) t =
 
 pub starred-boards-hold : (b : Board) → Mem b starred → Holds b
 starred-boards-hold b m = good-holds b (all-e good all-good m)
+
+-- what a board says of a chart, of the counts that are read
+pub of-chart : (Says : Chart → Type 0) (bytes : List ℕ) (sh : Shape) → readChart bytes ≡ Read.Chart sh → InChart bytes Says → Says (chartIn bytes sh)
+of-chart Says bytes sh read b = subst (λ (x : Shape). Says (chartIn bytes x)) (same-shape (b .1) read) (b .2)

@@ -1,0 +1,106 @@
+-- No call for C that meets its promise is idle: what C reads off it is what the question promises. Assumes nothing.
+use Prim.Native.Nat.{ℕ}
+use mathlib.Core.Path.{_≡_, refl, sym, ap, _∙_}
+use mathlib.Core.List.{List}
+use lib.Dec.{eqb}
+use borrow.Author.Tests.{eq-eqb, ne-eqb}
+use Rattle.settle.specs.Test.{pick}
+use Rattle.refusal.specs.Refusal.{inputNumber}
+use Rattle.refusal.specs.declared.Input.{Input}
+use Rattle.refusal.specs.declared.Input.the-variants as Input
+use Rattle.refusal.specs.declared.Refusal.{Refusal}
+use Rattle.nearness.specs.Relation.{Near, Simulating}
+use Rattle.relation.specs.Promise.{Saying, Relations, MatrixPromise}
+use Rattle.relation.specs.declared.MatrixAnswer.{MatrixAnswer}
+use Rattle.relation.specs.declared.MatrixAnswer.the-variants as Matrices
+use Rattle.property.specs.Promise.{PropertyPromise}
+use Rattle.property.specs.declared.PropertyAnswer.{PropertyAnswer}
+use Rattle.property.specs.declared.PropertyAnswer.the-variants as Property
+use Rattle.lent.specs.declared.LentAnswer.{LentAnswer}
+use Rattle.lent.specs.declared.LentAnswer.the-variants as Form
+use Rattle.short_form.specs.Promise.{ShortFormPromise}
+use Rattle.viewer.specs.Packing.{packed}
+use Rattle.viewer.specs.Shown.{lent, matrixCode, matrixStates, matrixRounds, propertyCode, wordLeft, countLeft, roundsLeft, formCode, writtenLeft, MatrixShown, MarksShown, SimulationShown, PropertyShown, ShortFormShown}
+use Rattle.viewer.proofs.Packing.{Packable, packed-some, packing}
+use Rattle.viewer.proofs.Packable.{matrix-packable, property-packable, short-form-packable}
+use Rattle.idle.specs.Slice.{Slice}
+use Rattle.idle.specs.Matrix as Matrix
+use Rattle.idle.specs.Property as Properties
+use Rattle.idle.specs.Written as Written
+use Rattle.idle.specs.ShortForm.{Asked}
+use Rattle.idle.specs.Call.{inputOf, refusalOf, MatrixLeft, matrixRead, matrixBuild, MeetsMatrix, PropertyLeft, propertyRead, propertyBuild, MeetsProperty, FormLeft, formRead, formBuild, MeetsForm}
+use Rattle.idle.proofs.Marks.{marks-not-idle}
+use Rattle.idle.proofs.Simulation.{simulation-not-idle}
+use Rattle.idle.proofs.Property.{property-not-idle}
+use Rattle.idle.proofs.ShortForm.{short-form-not-idle}
+
+-- ---- a refusal is read back from its code
+
+input-back : (i : Input) → inputOf (inputNumber i) ≡ i
+input-back Input.Chart = refl
+input-back Input.Sheet = refl
+input-back Input.BufferOrName = refl
+
+refusal-back : (r : Refusal) → Packable r → refusalOf (packed r) ≡ r
+refusal-back r fits = let p = packing r fits in same (ap inputOf (p .input-is) ∙ input-back (r .input)) (p .number-is) (p .place-is)
+  where
+    same : {i j : Input} {n m p q : ℕ} → i ≡ j → n ≡ m → p ≡ q → _≡_ {A = Refusal} (record { input = i; number = n; place = p }) (record { input = j; number = m; place = q })
+    same e f g = cc
+
+module _ {A : Type 0} (Promise : A → Type 0) (refused : Refusal → A) (given : A) (code : ℕ) where
+  abbrev Read : A
+  Read = pick (eqb code 0) given (refused (refusalOf code))
+
+  read-given : code ≡ 0 → Promise given → Promise Read
+  read-given e p = rw (eq-eqb code 0 e) p
+
+  read-refused : (r : Refusal) → Packable r → code ≡ packed r → Promise (refused r) → Promise Read
+  read-refused r fits e p = rw (ne-eqb code 0 (λ z. packed-some r fits (sym e ∙ z)), e, refusal-back r fits) p
+
+-- ---- marks and simulation
+
+module _ {Says : Saying} {R : Relations} (chart old : List ℕ) (states rounds : ℕ) (x : MatrixLeft) where
+  matrix-promised : MatrixShown (MatrixPromise Says R) chart old (x .bytes) (lent states (x .states)) (lent rounds (x .rounds)) (x .code) → MatrixPromise Says R chart old (x .bytes) (matrixRead x)
+  matrix-promised s = go (s .answer) (s .promised) (s .code-is) (s .states-is) (s .rounds-is)
+    where
+      go : (a : MatrixAnswer) → MatrixPromise Says R chart old (x .bytes) a → x .code ≡ matrixCode a → x .states ≡ matrixStates states a → x .rounds ≡ matrixRounds rounds a
+          → MatrixPromise Says R chart old (x .bytes) (matrixRead x)
+      go (Matrices.Given g) p c e f = read-given (MatrixPromise Says R chart old (x .bytes)) Matrices.Refused _ (x .code) c (rw (e, f) p)
+      go (Matrices.Refused r) p c e f = read-refused (MatrixPromise Says R chart old (x .bytes)) Matrices.Refused _ (x .code) r (matrix-packable chart old (x .bytes) r p) c p
+
+module _ (states rounds : ℕ) (call : Slice → Slice → MatrixLeft) where
+  pub marks-call-not-idle : MeetsMatrix MarksShown states rounds call → Matrix.NotIdle Near 0 1 (matrixBuild call)
+  marks-call-not-idle s = marks-not-idle (matrixBuild call) (λ chart old. matrix-promised (chart .0) (old .0) states rounds (call chart old) (s chart old))
+
+  pub simulation-call-not-idle : MeetsMatrix SimulationShown states rounds call → Matrix.NotIdle Simulating 1 0 (matrixBuild call)
+  simulation-call-not-idle s = simulation-not-idle (matrixBuild call) (λ chart old. matrix-promised (chart .0) (old .0) states rounds (call chart old) (s chart old))
+
+-- ---- property
+
+property-promised : (chart sheet : List ℕ) (word count rounds : ℕ) (x : PropertyLeft)
+    → PropertyShown chart sheet (lent word (x .word)) (lent count (x .count)) (lent rounds (x .rounds)) (x .code) → PropertyPromise chart sheet (propertyRead x)
+property-promised chart sheet word count rounds x s = go (s .answer) (s .promised) (s .code-is) (s .word-is) (s .count-is) (s .rounds-is)
+  where
+    go : (a : PropertyAnswer) → PropertyPromise chart sheet a → x .code ≡ propertyCode a → x .word ≡ wordLeft word a → x .count ≡ countLeft count a → x .rounds ≡ roundsLeft rounds a
+        → PropertyPromise chart sheet (propertyRead x)
+    go (Property.Satisfied a) p c e f g = read-given (PropertyPromise chart sheet) Property.Refused _ (x .code) c (rw (e, f, g) p)
+    go (Property.Refused r) p c e f g = read-refused (PropertyPromise chart sheet) Property.Refused _ (x .code) r (property-packable chart sheet r p) c p
+
+pub property-call-not-idle : (word count rounds : ℕ) (call : Slice → Slice → PropertyLeft) → MeetsProperty word count rounds call → Properties.NotIdle (propertyBuild call)
+property-call-not-idle word count rounds call s =
+    property-not-idle (propertyBuild call) (λ chart sheet. property-promised (chart .0) (sheet .0) word count rounds (call chart sheet) (s chart sheet))
+
+-- ---- short form
+
+form-promised : (chart sheet : List ℕ) (name : ℕ) (old : List ℕ) (written : ℕ) (x : FormLeft)
+    → ShortFormShown chart sheet name old (x .bytes) (lent written (x .written)) (x .code) → ShortFormPromise chart sheet name old (x .bytes) (formRead x)
+form-promised chart sheet name old written x s = go (s .answer) (s .promised) (s .code-is) (s .written-is)
+  where
+    go : (a : LentAnswer) → ShortFormPromise chart sheet name old (x .bytes) a → x .code ≡ formCode a → x .written ≡ writtenLeft written a
+        → ShortFormPromise chart sheet name old (x .bytes) (formRead x)
+    go (Form.Written length) p c e = read-given (ShortFormPromise chart sheet name old (x .bytes)) Form.Refused _ (x .code) c (rw e p)
+    go (Form.Refused r) p c e = read-refused (ShortFormPromise chart sheet name old (x .bytes)) Form.Refused _ (x .code) r (short-form-packable chart sheet name old (x .bytes) r p) c p
+
+pub short-form-call-not-idle : (written : ℕ) (call : Asked → Slice → FormLeft) → MeetsForm written call → Written.NotIdle (formBuild call)
+short-form-call-not-idle written call s =
+    short-form-not-idle (formBuild call) (λ i old. form-promised (i .chart .0) (i .sheet .0) (i .name) (old .0) written (call i old) (s i old))

@@ -1,0 +1,10 @@
+pub mod Slice
+pub mod AtRest
+pub mod Matrix
+pub mod Marks
+pub mod Simulation
+pub mod Property
+pub mod Written
+pub mod ShortForm
+pub mod Report
+pub mod Call

@@ -1,0 +1,82 @@
+-- What C reads off a call, as an answer of the question: with the lent numbers where the code is 0, else the refusal that the header's macros
+-- take from the code. So a call for C is a build of its question; `marks-call-not-idle` and the like of proofs/Call.antt say that it is not idle.
+use Prim.Native.Nat.{ℕ, _/_, _%_}
+use mathlib.Core.List.{List}
+use lib.Dec.{eqb}
+use Rattle.settle.specs.Test.{pick}
+use Rattle.refusal.specs.declared.Input.{Input}
+use Rattle.refusal.specs.declared.Input.the-variants as Input
+use Rattle.refusal.specs.declared.Refusal.{Refusal}
+use Rattle.relation.specs.declared.MatrixAnswer.{MatrixAnswer}
+use Rattle.relation.specs.declared.MatrixAnswer.the-variants as Matrices
+use Rattle.property.specs.declared.PropertyAnswer.{PropertyAnswer}
+use Rattle.property.specs.declared.PropertyAnswer.the-variants as Property
+use Rattle.lent.specs.declared.LentAnswer.{LentAnswer}
+use Rattle.lent.specs.declared.LentAnswer.the-variants.{Written, Refused}
+use Rattle.viewer.specs.Shown.{Lent, lent, PropertyShown, ShortFormShown}
+use Rattle.idle.specs.Slice.{Slice}
+use Rattle.idle.specs.Matrix as Matrix
+use Rattle.idle.specs.Property as Properties
+use Rattle.idle.specs.Written as Written
+use Rattle.idle.specs.ShortForm.{Asked}
+
+-- 0 chart, 1 sheet, 2 buffer or name
+abbrev pub inputOf : ℕ → Input
+inputOf number = pick (eqb number 0) Input.Chart (pick (eqb number 1) Input.Sheet Input.BufferOrName)
+
+abbrev pub refusalOf : ℕ → Refusal
+refusalOf code = record { input = inputOf (code / 256 % 256); number = code % 256; place = code / 65536 % 4294967296 }
+
+-- ---- marks and simulation
+
+pub record MatrixLeft : Type 0 where
+  pub code : ℕ
+  pub bytes : List ℕ
+  pub states : ℕ
+  pub rounds : ℕ
+
+abbrev pub matrixRead : MatrixLeft → MatrixAnswer
+matrixRead x = pick (eqb (x .code) 0) (Matrices.Given (record { states = x .states; rounds = x .rounds })) (Matrices.Refused (refusalOf (x .code)))
+
+abbrev pub matrixBuild : (Slice → Slice → MatrixLeft) → Matrix.Build
+matrixBuild call chart old = (matrixRead (call chart old), call chart old .bytes)
+
+-- it keeps what is shown to C, whatever the lent numbers were
+abbrev pub MeetsMatrix : (List ℕ → List ℕ → List ℕ → Lent → Lent → ℕ → Type 0) → ℕ → ℕ → (Slice → Slice → MatrixLeft) → Type 0
+MeetsMatrix Shown states rounds call = (chart old : Slice) → let x = call chart old in
+    Shown (chart .0) (old .0) (x .bytes) (lent states (x .states)) (lent rounds (x .rounds)) (x .code)
+
+-- ---- property
+
+pub record PropertyLeft : Type 0 where
+  pub code : ℕ
+  pub word : ℕ
+  pub count : ℕ
+  pub rounds : ℕ
+
+abbrev pub propertyRead : PropertyLeft → PropertyAnswer
+propertyRead x = pick (eqb (x .code) 0) (Property.Satisfied (record { word = x .word; count = x .count; rounds = x .rounds })) (Property.Refused (refusalOf (x .code)))
+
+abbrev pub propertyBuild : (Slice → Slice → PropertyLeft) → Properties.Build
+propertyBuild call chart sheet = propertyRead (call chart sheet)
+
+abbrev pub MeetsProperty : ℕ → ℕ → ℕ → (Slice → Slice → PropertyLeft) → Type 0
+MeetsProperty word count rounds call = (chart sheet : Slice) → let x = call chart sheet in
+    PropertyShown (chart .0) (sheet .0) (lent word (x .word)) (lent count (x .count)) (lent rounds (x .rounds)) (x .code)
+
+-- ---- short form
+
+pub record FormLeft : Type 0 where
+  pub code : ℕ
+  pub bytes : List ℕ
+  pub written : ℕ
+
+abbrev pub formRead : FormLeft → LentAnswer
+formRead x = pick (eqb (x .code) 0) (Written (x .written)) (Refused (refusalOf (x .code)))
+
+abbrev pub formBuild : (Asked → Slice → FormLeft) → Written.Build Asked
+formBuild call i old = (formRead (call i old), call i old .bytes)
+
+abbrev pub MeetsForm : ℕ → (Asked → Slice → FormLeft) → Type 0
+MeetsForm written call = (i : Asked) (old : Slice) → let x = call i old in
+    ShortFormShown (i .chart .0) (i .sheet .0) (i .name) (old .0) (x .bytes) (lent written (x .written)) (x .code)

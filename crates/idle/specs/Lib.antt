@@ -1,0 +1,6 @@
+pub mod Slice
+pub mod Matrix
+pub mod Property
+pub mod Written
+pub mod ShortForm
+pub mod Call
