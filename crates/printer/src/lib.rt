@@ -1,9 +1,9 @@
 // The thin part of the program: a file's bytes are read, the report on them is made by proved code, and it is written once. No contract can say
-// what is read or written.
+// what is read or written: what the reads put into the buffer, and in which pieces, is run from outside.
 use lent::LentAnswer;
 use libc::STDOUT_FILENO;
 ghost use lib.ListN.{length};
-ghost use Rattle.printer.specs.Filled.{Within};
+ghost use Rattle.printer.specs.Filled.{KeptBefore, Within};
 
 // How many bytes stand in a buffer's start; or the file cannot be read.
 pub enum Filled {
@@ -11,32 +11,39 @@ pub enum Filled {
     Unreadable,
 }
 
-// Reads until the buffer is full or the file ends.
-fn fill(fd: i32, bytes: &mut [u8]) -> Filled
-    ensures { λ r. ⌜ Within (length (now (bytes .exit))) r ⌝ }
+// Reads on from a place until the buffer is full or the file ends. The bytes before the place stay, so pieces stand one after another.
+fn fill(fd: i32, bytes: &mut [u8], at: usize) -> Filled
+    ensures { λ r. ⌜ Within at (length (now (bytes .exit))) r ⌝ }
+    ensures { λ _. ⌜ KeptBefore at (now (bytes .entry)) (now (bytes .exit)) ⌝ }
 {
-    let mut done: usize = 0;
-    while done < bytes.len() {
-        let got = libc::read(fd, &mut bytes[done..]);
-        if got < 0 {
-            return Filled::Unreadable;
-        }
-        let more = io::count(got, &bytes[done..]);
-        if more == 0 {
-            return Filled::Bytes(done);
-        }
-        done = done + more;
+    if bytes.len() <= at {
+        return Filled::Bytes(bytes.len());
     }
-    Filled::Bytes(done)
+    let got = libc::read(fd, &mut bytes[at..]);
+    if got < 0 {
+        return Filled::Unreadable;
+    }
+    let more = io::count(got, &bytes[at..]);
+    if more == 0 {
+        return Filled::Bytes(at);
+    }
+    fill(fd, bytes, at + more)
+}
+
+// A text that cannot be written is told on standard error; a program has no exit status to tell it by.
+fn print(text: &[u8]) {
+    if !io::write_all(STDOUT_FILENO, text) {
+        os::fail(b"rebatelion: cannot write");
+    }
 }
 
 fn no_file() {
-    io::write_all(STDOUT_FILENO, b"no file\n");
+    print(b"no file\n");
 }
 
 fn print_start(text: &[u8], size: usize) {
     if size <= text.len() {
-        io::write_all(STDOUT_FILENO, &text[..size]);
+        print(&text[..size]);
     }
 }
 
@@ -55,7 +62,7 @@ fn print_report(bytes: &[u8], size: usize) {
 // The longest chart has 3,172 bytes: more are read, so that a longer file is refused as it should be.
 fn print_file(fd: i32) {
     let mut bytes = io::buffer();
-    match fill(fd, &mut bytes) {
+    match fill(fd, &mut bytes, 0) {
         Filled::Unreadable => no_file(),
         Filled::Bytes(size) => print_report(&bytes, size),
     }
