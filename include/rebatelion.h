@@ -13,8 +13,9 @@
  * - A buffer is a pointer and a length. An answer fills its start; the bytes after that stay as they were.
  * - A number is a pointer to one aligned uint64_t, never null. An answer is written there.
  * - Everything lent must stay in place until the call returns, and may be freed or reused from then on: no pointer is kept.
- * - The parts that are lent to one call must not overlap: neither a buffer and an input, nor two numbers, nor a number and
- *   any other part. No other thread may write to any of them during the call.
+ * - What is written, a buffer or a number, must not overlap any other part that is lent to the same call. The chart and the
+ *   sheet may overlap, or be the same bytes, since both are only read.
+ * - No other thread may write to any part during the call, nor read a buffer or a number.
  * - Where a length is 0 the pointer is not used and may be null.
  *
  * WHAT IS RETURNED
@@ -97,6 +98,8 @@ uint64_t rebatelion_property(const uint8_t *chart, size_t chart_len, const uint8
 /* A property sheet made from a sheet for F, a formula without variable, by one of four short forms.
  *
  * Name: 0 always F, 1 possibly F, 2 a safe path (some way to go on as long as the chart does, with F all along), 3 eventually F.
+ * Eventually F is "or F, box 255 X": every way to go on comes to F or comes to rest. A state at rest satisfies it whatever F is,
+ * so a run that rests before F counts as one that comes to F.
  * F's own kind is ignored. The sheet fills the start of the buffer, and *written is its length; a buffer of
  * REBATELION_MAX_SHEET bytes is always long enough. Hand it to rebatelion_property with a chart that has the same actions.
  *

@@ -4,10 +4,11 @@
  * a form, 0 to 3, the states that satisfy that short form of the sheet's formula. What is refused is shown as
  * "refused INPUT NUMBER PLACE", and a file that cannot be read as "no file".
  *
- * tests/run builds it as tests/target/viewer. By hand, on x86-64:
- *     gcc -std=c11 -Iinclude viewer/viewer.c target/staticlib/libviewer.a -o viewer
+ * tests/run builds it as tests/target/viewer. By hand, on x86-64, in the project's root:
+ *     rt staticlib viewer
+ *     gcc -std=c11 -Iinclude viewer/viewer.c target/staticlib/libviewer.a -o target/viewer
  *
- * Exit status: 0 all shown, 1 something was refused, 2 no file or wrong arguments. */
+ * Exit status: 0 all shown, 1 something was refused, 2 no file, wrong arguments or output that could not be written. */
 #include "rebatelion.h"
 
 #include <errno.h>
@@ -97,6 +98,20 @@ static int make_form(uint64_t name) {
     return 0;
 }
 
+/* What is asked for, in turn, and the status so far. */
+static int show(int argc, char **argv, uint64_t name) {
+    if (!read_file(argv[1], chart, sizeof chart, &chart_len) ||
+        (argc > 2 && !read_file(argv[2], sheet, sizeof sheet, &sheet_len))) {
+        printf("no file\n");
+        return 2;
+    }
+    if (show_marks() || show_simulation()) return 1;
+    if (argc == 2) return 0;
+    printf("\n");
+    if (argc == 4 && make_form(name)) return 1;
+    return show_property();
+}
+
 int main(int argc, char **argv) {
     uint64_t name = 0;
     if (argc < 2 || argc > 4) {
@@ -112,14 +127,12 @@ int main(int argc, char **argv) {
             return 2;
         }
     }
-    if (!read_file(argv[1], chart, sizeof chart, &chart_len) ||
-        (argc > 2 && !read_file(argv[2], sheet, sizeof sheet, &sheet_len))) {
-        printf("no file\n");
+    int status = show(argc, argv, name);
+    /* a full disk, for one, may show only when the last bytes are written */
+    int lost = ferror(stdout);
+    if (fclose(stdout) != 0 || lost) {
+        fprintf(stderr, "viewer: cannot write\n");
         return 2;
     }
-    if (show_marks() || show_simulation()) return 1;
-    if (argc == 2) return 0;
-    printf("\n");
-    if (argc == 4 && make_form(name)) return 1;
-    return show_property();
+    return status;
 }

@@ -2,6 +2,19 @@
 
 use std::collections::BTreeSet;
 
+/// What is asked of a question in each of its cases: the archive's time is at most so many times that of the same shape, and that of words
+/// where anything is asked of it.
+pub struct Asked {
+    pub question: &'static str,
+    pub same: f64,
+    pub words: Option<f64>,
+}
+
+pub const MARKS: Asked = Asked { question: "marks", same: 2.0, words: None };
+pub const SIMULATION: Asked = Asked { question: "simulation", same: 2.0, words: None };
+pub const PROPERTY: Asked = Asked { question: "property", same: 2.0, words: None };
+pub const SHORT_FORM: Asked = Asked { question: "short form", same: 2.0, words: None };
+
 /// Numbers that look random and are the same in every run (splitmix64).
 pub struct Random(pub u64);
 

@@ -1,5 +1,6 @@
 //! Times the archive's calls beside Rust of the same shape and beside the fastest Rust that we know, in one run. Each time is the
-//! least processor time of several samples, taken in turn; the buffers are not cleared between calls.
+//! least processor time of several samples, taken in turn; the buffers are not cleared between calls. Ends with a line for each
+//! ratio above what is asked, and with status 1 where there is one.
 
 mod archive;
 mod cases;
@@ -8,7 +9,9 @@ mod same_shape;
 mod short_form;
 mod words;
 
+use cases::Asked;
 use std::hint::black_box;
+use std::process::ExitCode;
 
 const SAMPLES: usize = 15;
 const SAMPLE_SECONDS: f64 = 0.004;
@@ -55,8 +58,10 @@ fn time<const N: usize>(mut calls: [&mut dyn FnMut(); N]) -> [f64; N] {
     least
 }
 
-fn row(question: &str, case: &str, rounds: &str, [archive, same, words]: [f64; 3]) {
+/// Prints the times of a case, and keeps a line for each ratio that is above what is asked.
+fn row(above: &mut Vec<String>, asked: &Asked, case: &str, rounds: &str, [archive, same, words]: [f64; 3]) {
     let us = 1e6;
+    let question = asked.question;
     println!(
         "| {question:<10} | {case:<49} | {rounds:>6} | {:>10.2} | {:>10.2} | {:>8.2} | {:>12.2} | {:>13.2} |",
         archive * us,
@@ -65,6 +70,13 @@ fn row(question: &str, case: &str, rounds: &str, [archive, same, words]: [f64; 3
         archive / same,
         archive / words
     );
+    for (beside, ratio, most) in [("same", archive / same, Some(asked.same)), ("words", archive / words, asked.words)] {
+        let Some(most) = most else { continue };
+        // as it is printed, so that no line says 2.00 where 2 is asked
+        if (ratio * 100.0).round() > most * 100.0 {
+            above.push(format!("above what is asked: {question}, {case}: archive/{beside} {ratio:.2}, asked {most}"));
+        }
+    }
 }
 
 type Matrix = fn(&[u8], &mut [u8]) -> Option<u64>;
@@ -129,7 +141,9 @@ fn safe_path(chart: &[u8], sheet: &[u8]) -> [f64; 3] {
 const MARKS: [Matrix; 3] = [archive::marks, same_shape::marks, words::marks];
 const SIMULATION: [Matrix; 3] = [archive::simulation, same_shape::simulation, words::simulation];
 
-fn beside_rust() {
+/// The table of all cases; what is above what is asked.
+fn beside_rust() -> Vec<String> {
+    let mut above = Vec::new();
     println!("Times in microseconds, the least of {SAMPLES} samples.\n");
     let (question, case) = ("question", "case");
     println!("| {question:<10} | {case:<49} | rounds |    archive | same shape |    words | archive/same | archive/words |");
@@ -143,10 +157,10 @@ fn beside_rust() {
         ("ring of 64", cases::ring(64)),
         ("rings of 31 and 33", cases::two_rings(31, 33)),
     ];
-    for (question, calls) in [("marks", MARKS), ("simulation", SIMULATION)] {
+    for (asked, calls) in [(cases::MARKS, MARKS), (cases::SIMULATION, SIMULATION)] {
         for (case, chart) in &charts {
             let (rounds, times) = matrix(chart, calls);
-            row(question, case, &rounds.to_string(), times);
+            row(&mut above, &asked, case, &rounds.to_string(), times);
         }
     }
     let drawn = cases::drawn(64, 32, 1024);
@@ -159,15 +173,16 @@ fn beside_rust() {
         ("chain of 64, 200 nodes", cases::chain(64), cases::long_reach_rest()),
     ] {
         let (rounds, times) = property(&chart, &sheet);
-        row("property", case, &rounds.to_string(), times);
+        row(&mut above, &cases::PROPERTY, case, &rounds.to_string(), times);
     }
     for (case, chart, sheet) in [
         ("E, its sheet, name 2", cases::e(), cases::e_sheet()),
         ("E, 194 nodes nested, name 2", cases::e(), cases::closed_sheet(194)),
         ("1,024 triples, 194 nodes nested, name 2", cases::drawn(64, 32, 1024), cases::closed_sheet(194)),
     ] {
-        row("short form", case, "-", safe_path(&chart, &sheet));
+        row(&mut above, &cases::SHORT_FORM, case, "-", safe_path(&chart, &sheet));
     }
+    above
 }
 
 fn growth() {
@@ -193,7 +208,12 @@ fn growth() {
     }
 }
 
-fn main() {
-    beside_rust();
+fn main() -> ExitCode {
+    let above = beside_rust();
     growth();
+    println!();
+    for line in &above {
+        println!("{line}");
+    }
+    ExitCode::from(!above.is_empty() as u8)
 }

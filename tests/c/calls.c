@@ -120,6 +120,18 @@ static void property(void) {
     /* L has one action, and the sheet names three */
     EXPECT_REFUSED(rebatelion_property(l, sizeof l, e_sheet, sizeof e_sheet, &x, &y, &z), 1, 12, 7);
     EXPECT_KEPT();
+
+    /* inputs may overlap: the mode codes of this E are a sheet, diamond 0 true; and the whole of it is none */
+    uint8_t held[sizeof e];
+    memcpy(held, e, sizeof e);
+    memcpy(held + 1, (const uint8_t[]){1, 2, 2, 5, 0, 1}, 6);
+    EXPECT(rebatelion_property(held, sizeof held, held + 1, 6, &x, &y, &z), 0);
+    EXPECT(x, 3);
+    EXPECT(y, 2);
+    EXPECT(z, 1);
+    fill();
+    EXPECT_REFUSED(rebatelion_property(held, sizeof held, held, sizeof held, &x, &y, &z), 1, 9, 0);
+    EXPECT_KEPT();
 }
 
 static void short_form(void) {
