@@ -7,4 +7,5 @@ pub mod Property
 pub mod Written
 pub mod ShortForm
 pub mod Report
+pub mod Readers
 pub mod Call
