@@ -12,7 +12,7 @@ use borrow.Author.Tests.{ltb-false, lt-leb, le-ltb, lt-ltb}
 use Rattle.refusal.specs.declared.Refusal.{Refusal}
 use Rattle.settle.specs.Test.{pick}
 use Rattle.chart.specs.Chart.{Step}
-use Rattle.chart.specs.Layout.{Earlier, StepIn}
+use Rattle.chart.specs.Layout.{longestChart, Earlier, StepIn}
 use Rattle.chart.specs.Reading.{stepAt, chartIn, presence, judgeCodes, judgeTriple, judgeTriples, whereFine, readTransitions, readActions, readChart}
 use Rattle.chart.specs.declared.Judged.{Judged}
 use Rattle.chart.specs.declared.Judged.the-variants.{Fine, Bad}
@@ -202,6 +202,10 @@ accepts s sh A =
       le-ltb 64 (sh .n) (A .states-few),
       lt-leb (length s) (sh .n) (omega arith),
     ) (are-actions s (sh .n) (sh .m) (1 + sh .n) (sh .t) C)
+
+-- no accepted chart is longer than the longest
+pub accepted-short : (s : List ℕ) (sh : Shape) → readChart s ≡ Read.Chart sh → length s ≤ longestChart
+accepted-short s sh e = let A = accepted s sh e in omega (arith, A .whole, A .states-few, A .actions-few, A .transitions-few)
 
 source-rises : (a b : Step) → Earlier a b → a .source ≤ b .source
 source-rises a b (inl h) = omega arith

@@ -2,18 +2,17 @@
 -- and 3,173 bytes decide.
 use Prim.Native.Nat.{ℕ, zero, suc, _+_, _-_, _*_, _<_, _≤_}
 use mathlib.Core.Path.{_≡_, refl, ap, sym, _∙_}
-use mathlib.Core.Bool.{Bool, true, false}
 use mathlib.Core.List.{List, _∷_, _++_}
 use mathlib.Core.Logic.{_⊎_, inl, inr}
 use native.Mathlib.Omega.{arith}
 use native.Mathlib.Decide.{decLe}
 use lib.ListN.{length, getD, take, drop, length-append, take-append-drop, List·getD-append}
 use lib.Seq.{length-take-le, take-all}
-use lib.Dec.{ltb, leb}
-use borrow.Author.Tests.{leb-false, ltb-true, ltb-false, lt-leb}
+use lib.Dec.{ltb}
 use Rattle.settle.specs.Test.{pick}
 use Rattle.refusal.specs.Refusal.{chartRefusal}
 use Rattle.refusal.specs.declared.Refusal.{Refusal}
+use Rattle.chart.specs.Layout.{longestChart}
 use Rattle.chart.specs.Reading.{andThen, presence, codeOrder, judgeCodes, judgeByte, tripleOrder, judgeTriple, judgeTriples, whereFine, readTransitions, readActions, readChart}
 use Rattle.chart.specs.declared.Judged.{Judged}
 use Rattle.chart.specs.declared.Judged.the-variants.{Fine, Bad}
@@ -22,8 +21,9 @@ use Rattle.chart.specs.declared.ChartRead.{ChartRead}
 use Rattle.chart.specs.declared.ChartRead.the-variants as Read
 use Rattle.chart.proofs.Reading.{present, byte-fine}
 use Rattle.chart.proofs.Judging.{triples-fine}
-use Rattle.chart.proofs.Accepted.{accepted, reached}
+use Rattle.chart.proofs.Accepted.{accepted, accepted-short, reached}
 use Rattle.chart.proofs.Refused.{refused}
+use Rattle.chart.proofs.Continued.{same-test, needed-byte, left-over}
 
 -- ---- judging: a needed byte is absent from s, or s is judged as the whole is
 
@@ -37,11 +37,7 @@ then-kept s (Bad r) a′ b b′ (inl e) g = inl e
 then-kept s (Bad r) a′ b b′ (inr e) g = rw e (inr refl)
 
 presence-kept : (s more : List ℕ) (p : ℕ) → Kept s (presence s p) (presence (s ++ more) p)
-presence-kept s more p = go (leb (length s) p) refl
-  where
-    go : (x : Bool) → leb (length s) p ≡ x → Kept s (pick x (Bad (chartRefusal 1 (length s))) Fine) (presence (s ++ more) p)
-    go true e = inl refl
-    go false e = inr (rw (lt-leb (length (s ++ more)) p (omega (arith, length-append s more, leb-false (length s) p e))))
+presence-kept s more p = needed-byte (Kept s) s more p _ (λ _. inl refl) (λ _. inr refl)
 
 codes-kept : (s more : List ℕ) (p i left : ℕ) → Kept s (judgeCodes s p i left) (judgeCodes (s ++ more) p i left)
 unfolding judgeCodes
@@ -95,25 +91,12 @@ where-kept s Fine a′ k k′ (inr e) g = rw e (g refl)
 where-kept s (Bad r) a′ k k′ (inl e) g = let z : r ≡ chartRefusal 1 (length s) = cc in inl (ap Read.Refused z)
 where-kept s (Bad r) a′ k k′ (inr e) g = rw e (inr (inl refl))
 
-past-kept : (s : List ℕ) (x : Bool) (r : Refusal) (k k′ : ChartRead) → Fate s k k′ → Fate s (pick x (Read.Refused r) k) (pick x (Read.Refused r) k′)
-past-kept s true r k k′ f = inr (inl refl)
-past-kept s false r k k′ f = f
-
 -- a chart that ends at q
 abbrev ended : List ℕ → ℕ → Shape → ChartRead
 ended s q sh = pick (ltb q (length s)) (Read.Refused (chartRefusal 8 q)) (Read.Chart sh)
 
 end-kept : (s more : List ℕ) (q : ℕ) (sh : Shape) → q ≤ length s → Fate s (ended s q sh) (ended (s ++ more) q sh)
-end-kept s more q sh h = go (ltb q (length s)) refl (ltb q (length (s ++ more))) refl
-  where
-    go : (x : Bool) → ltb q (length s) ≡ x → (y : Bool) → ltb q (length (s ++ more)) ≡ y
-        → Fate s (pick x (Read.Refused (chartRefusal 8 q)) (Read.Chart sh)) (pick y (Read.Refused (chartRefusal 8 q)) (Read.Chart sh))
-    go true e true f = inr (inl refl)
-    go true e false f = absurd (omega (arith, ltb-true q (length s) e, ltb-false q (length (s ++ more)) f, length-append s more))
-    go false e true f =
-        let z : q ≡ length s = omega (arith, ltb-false q (length s) e) in
-        inr (inr (sh, refl, ap (λ (k : ℕ). Read.Refused (chartRefusal 8 k)) z))
-    go false e false f = inr (inl refl)
+end-kept s more q sh h = left-over (Fate s) s more q h (inr (inl refl)) (inr (inl refl)) (λ e. inr (inr (sh, refl, ap (λ (k : ℕ). Read.Refused (chartRefusal 8 k)) e)))
 
 steps-kept : (s more : List ℕ) (p : ℕ) (sh : Shape) → p ≤ length s
     → Fate s (whereFine (judgeTriples s (sh .n) (sh .m) p 0 (sh .t)) (ended s (p + 3 * sh .t) sh)) (whereFine (judgeTriples (s ++ more) (sh .n) (sh .m) p 0 (sh .t)) (ended (s ++ more) (p + 3 * sh .t) sh))
@@ -128,7 +111,7 @@ transitions-kept s more n m p =
     where-kept s (presence s (p + 1)) _ _ _ (presence-kept s more (p + 1)) (λ e.
     let h : p + 1 < length s = present s (p + 1) e in
     rw (List·getD-append s more 0 p (omega arith), List·getD-append s more 0 (p + 1) h)
-    (past-kept s (ltb 1024 (getD s p 0 + 256 * getD s (p + 1) 0)) _ _ _
+    (same-test (Fate s) (ltb 1024 (getD s p 0 + 256 * getD s (p + 1) 0)) (inr (inl refl))
     (steps-kept s more (p + 2) (record { n = n; m = m; t = getD s p 0 + 256 * getD s (p + 1) 0 }) (omega arith)))))
 
 actions-kept : (s more : List ℕ) (n p : ℕ) → Fate s (readActions s n p) (readActions (s ++ more) n p)
@@ -136,7 +119,7 @@ unfolding readActions
 actions-kept s more n p =
     where-kept s (presence s p) _ _ _ (presence-kept s more p) (λ e.
     rw (List·getD-append s more 0 p (present s p e))
-    (past-kept s (ltb 32 (getD s p 0)) _ _ _
+    (same-test (Fate s) (ltb 32 (getD s p 0)) (inr (inl refl))
     (where-kept s (judgeCodes s (p + 1) 0 (getD s p 0)) _ _ _ (codes-kept s more (p + 1) 0 (getD s p 0)) (λ _.
     transitions-kept s more n (getD s p 0) (p + 1 + getD s p 0)))))
 
@@ -145,8 +128,8 @@ unfolding readChart
 chart-kept s more =
     where-kept s (presence s 0) _ _ _ (presence-kept s more 0) (λ e.
     rw (List·getD-append s more 0 0 (present s 0 e))
-    (past-kept s (ltb (getD s 0 0) 1) _ _ _
-    (past-kept s (ltb 64 (getD s 0 0)) _ _ _
+    (same-test (Fate s) (ltb (getD s 0 0) 1) (inr (inl refl))
+    (same-test (Fate s) (ltb 64 (getD s 0 0)) (inr (inl refl))
     (where-kept s (presence s (getD s 0 0)) _ _ _ (presence-kept s more (getD s 0 0)) (λ _.
     actions-kept s more (getD s 0 0) (1 + getD s 0 0))))))
 
@@ -181,7 +164,7 @@ beginning-refused s x more sh e = go (readChart s) refl (chart-kept s (x ∷ mor
     go a i (inr (inr (_, g, h))) = let z : _≡_ {A = ℕ} 0 1 = cc in absurd (omega arith)
 
 -- 3,173 bytes, one more than the longest chart has, decide as the whole would
-pub first-bytes-decide : (s : List ℕ) (k : ℕ) → 3173 ≤ k → readChart (take k s) ≡ readChart s
+pub first-bytes-decide : (s : List ℕ) (k : ℕ) → longestChart < k → readChart (take k s) ≡ readChart s
 first-bytes-decide s k h = elim (decLe (length s) k) [ yes l ↦ ap readChart (take-all k s l) | no l ↦ longer (omega arith) ]
   where
     longer : k < length s → readChart (take k s) ≡ readChart s
@@ -190,6 +173,4 @@ first-bytes-decide s k h = elim (decLe (length s) k) [ yes l ↦ ap readChart (t
         go : length (take k s) ≡ k → Fate (take k s) (readChart (take k s)) (readChart (take k s ++ drop k s)) → readChart (take k s) ≡ readChart s
         go q (inl g) = absurd (omega (arith, refused (take k s) _ g .place-few))
         go q (inr (inl g)) = sym g ∙ ap readChart (take-append-drop k s)
-        go q (inr (inr (sh, g, f))) =
-            let A = accepted (take k s) sh g in
-            absurd (omega (arith, A .whole, A .states-few, A .actions-few, A .transitions-few))
+        go q (inr (inr (sh, g, f))) = absurd (omega (arith, accepted-short (take k s) sh g))

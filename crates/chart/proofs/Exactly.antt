@@ -152,7 +152,8 @@ written-accepted s c F W =
           rw (stepsAt-getD s (4 + states c + actions c) (transitions c) i u (omega arith), stepsAt-getD s (4 + states c + actions c) (transitions c) (i + 1) u h) at r);
     }
 
-encoded-reads : (s : List ℕ) (c : Chart) → s ≡ encode c → WellFormed c → Reads s c
+-- a chart's own layout is read as that chart
+pub encoded-reads : (s : List ℕ) (c : Chart) → s ≡ encode c → WellFormed c → Reads s c
 encoded-reads s c e F =
     let W = written s c e in
     (accepts s (shapeOf c) (written-accepted s c F W), written-chart s c W)

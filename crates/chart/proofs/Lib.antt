@@ -4,4 +4,5 @@ pub mod Judging
 pub mod Accepted
 pub mod Exactly
 pub mod Refused
+pub mod Continued
 pub mod Beginning

@@ -11,6 +11,7 @@ use Rattle.refusal.specs.declared.Input.the-variants as Input
 use Rattle.refusal.specs.declared.Refusal.{Refusal}
 use Rattle.settle.specs.Test.{pick}
 use Rattle.refusal.specs.Refusal.{chartRefusal}
+use Rattle.chart.specs.Layout.{longestChart}
 use Rattle.chart.specs.Reading.{stepAt, andThen, presence, codeOrder, judgeCodes, judgeByte, earlier, tripleOrder, judgeTriple, judgeTriples, whereFine, readTransitions, readActions, readChart}
 use Rattle.chart.specs.declared.Judged.{Judged}
 use Rattle.chart.specs.declared.Judged.the-variants.{Fine, Bad}
@@ -22,7 +23,7 @@ pub record Placed (r : Refusal) : Type 0 where
   pub of-chart : r .input ≡ Input.Chart
   pub number-some : 1 ≤ r .number
   pub number-few : r .number ≤ 8
-  pub place-few : r .place ≤ 3172
+  pub place-few : r .place ≤ longestChart
 
 record BadPlaced (a : Judged) : Type 0 where
   where-bad : (r : Refusal) → a ≡ Bad r → Placed r
@@ -30,7 +31,7 @@ record BadPlaced (a : Judged) : Type 0 where
 record RefusedPlaced (a : ChartRead) : Type 0 where
   where-refused : (r : Refusal) → a ≡ Read.Refused r → Placed r
 
-placed : (number place : ℕ) → 1 ≤ number → number ≤ 8 → place ≤ 3172 → Placed (chartRefusal number place)
+placed : (number place : ℕ) → 1 ≤ number → number ≤ 8 → place ≤ longestChart → Placed (chartRefusal number place)
 placed number place h₁ h₂ h₃ = record { of-chart = refl; number-some = h₁; number-few = h₂; place-few = h₃ }
 
 -- ---- judging
@@ -49,14 +50,14 @@ test-placed : (x : Bool) (a : Judged) → BadPlaced a → BadPlaced (pick x Fine
 test-placed true a f = fine-placed
 test-placed false a f = f
 
-presence-placed : (s : List ℕ) (p : ℕ) → p ≤ 3172 → BadPlaced (presence s p)
+presence-placed : (s : List ℕ) (p : ℕ) → p ≤ longestChart → BadPlaced (presence s p)
 presence-placed s p h = go (leb (length s) p) refl
   where
     go : (x : Bool) → leb (length s) p ≡ x → BadPlaced (pick x (Bad (chartRefusal 1 (length s))) Fine)
     go true e = bad-placed _ (placed 1 (length s) (omega arith) (omega arith) (omega (arith, leb-true (length s) p e)))
     go false e = fine-placed
 
-codes-placed : (s : List ℕ) (p i left : ℕ) → p + left ≤ 3172 → BadPlaced (judgeCodes s p i left)
+codes-placed : (s : List ℕ) (p i left : ℕ) → p + left ≤ longestChart → BadPlaced (judgeCodes s p i left)
 unfolding judgeCodes
 codes-placed s p i zero h = fine-placed
 codes-placed s p i (suc k) h =
@@ -69,12 +70,12 @@ codes-placed s p i (suc k) h =
         (test-placed (ltb (getD s (p - 1) 0) (getD s p 0)) _
         (bad-placed _ (placed 4 p (omega arith) (omega arith) (omega arith))))
 
-byte-placed : (s : List ℕ) (p bound : ℕ) → p ≤ 3172 → BadPlaced (judgeByte s p bound)
+byte-placed : (s : List ℕ) (p bound : ℕ) → p ≤ longestChart → BadPlaced (judgeByte s p bound)
 byte-placed s p bound h =
     then-placed _ _ (presence-placed s p h)
     (test-placed (ltb (getD s p 0) bound) _ (bad-placed _ (placed 6 p (omega arith) (omega arith) h)))
 
-triple-placed : (s : List ℕ) (n m p i : ℕ) → p + 2 ≤ 3172 → BadPlaced (judgeTriple s n m p i)
+triple-placed : (s : List ℕ) (n m p i : ℕ) → p + 2 ≤ longestChart → BadPlaced (judgeTriple s n m p i)
 triple-placed s n m p i h =
     then-placed _ _ (byte-placed s p n (omega arith))
     (then-placed _ _ (byte-placed s (p + 1) m (omega arith))
@@ -86,7 +87,7 @@ triple-placed s n m p i h =
         (test-placed (earlier (stepAt s (p - 3)) (stepAt s p)) _
         (bad-placed _ (placed 7 p (omega arith) (omega arith) (omega arith))))
 
-triples-placed : (s : List ℕ) (n m p i left : ℕ) → p + 3 * left ≤ 3172 → BadPlaced (judgeTriples s n m p i left)
+triples-placed : (s : List ℕ) (n m p i left : ℕ) → p + 3 * left ≤ longestChart → BadPlaced (judgeTriples s n m p i left)
 unfolding judgeTriples
 triples-placed s n m p i zero h = fine-placed
 triples-placed s n m p i (suc k) h =

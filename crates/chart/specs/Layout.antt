@@ -16,6 +16,10 @@ encode c =
     ++ (actions c ∷ c .codes
     ++ (transitions c % 256 ∷ transitions c / 256 ∷ stepBytes (c .steps)))
 
+-- the most bytes that a chart has: 4, then 64 for its states, 32 for its actions and three for each of 1,024 transitions
+abbrev pub longestChart : ℕ
+longestChart = 3172
+
 -- compared by source, then action, then target
 abbrev pub Earlier : Step → Step → Type 0
 Earlier s u = (s .source < u .source) ⊎ ((s .source ≡ u .source) × ((s .action < u .action) ⊎ ((s .action ≡ u .action) × (s .target < u .target))))

@@ -9,12 +9,12 @@ use lib.ListN.{length, getD, drop, drop-of-length-le}
 use Rattle.refusal.specs.declared.Refusal.{Refusal}
 use Rattle.chart.proofs.Steps.{byte-then}
 use Rattle.sheet.specs.Formula.{Formula, nodes}
-use Rattle.sheet.specs.Layout.{formulaBytes, encode, WellFormed}
+use Rattle.sheet.specs.Layout.{formulaBytes, encode, longestSheet, WellFormed}
 use Rattle.sheet.specs.Reading.{parsed, parse, Sheet, sheet, refused, readNodes, readSheet, sheetRead, AcceptedExactly}
 use Rattle.sheet.specs.declared.Outline.{Outline}
 use Rattle.sheet.specs.declared.SheetRead.{SheetRead}
 use Rattle.sheet.specs.declared.SheetRead.the-variants as Read
-use Rattle.sheet.proofs.Found.{FaultBy, nodes-positive, formula-found, SheetAt, SheetFound, sheet-found}
+use Rattle.sheet.proofs.Found.{FaultBy, nodes-positive, bytes-few, formula-found, SheetAt, SheetFound, sheet-found}
 use Rattle.sheet.proofs.Written.{formula-written}
 
 -- ---- what the reader's answer says
@@ -109,6 +109,16 @@ layout-written m few kind f w =
       formula,
       le-ltb _ _ whole,
     )
+
+pub encode-short : (kind : ℕ) (f : Formula) → nodes f ≤ 200 → length (encode kind f) ≤ longestSheet
+unfolding encode
+encode-short kind f few = omega (arith, bytes-few f)
+
+-- no accepted sheet is longer than the longest
+pub accepted-short : (s : List ℕ) (m kind count : ℕ) (f : Formula) → readSheet s m ≡ sheet kind count f → length s ≤ longestSheet
+accepted-short s m kind count f e =
+    let q = layout-read s m kind count f e in
+    rw (q .0) (encode-short kind f (q .1 .nodes-few))
 
 pub accepted-exactly : (s : List ℕ) (m : ℕ) → m ≤ 32 → (kind : ℕ) (f : Formula)
     → (readSheet s m ≡ sheet kind (nodes f) f) ↔ ((s ≡ encode kind f) × WellFormed m kind f)

@@ -20,11 +20,12 @@ use Rattle.sheet.specs.Reading.{Sheet, sheet, refused, ending, readNodes
 use Rattle.sheet.specs.declared.Node.{Node}
 use Rattle.sheet.specs.declared.Node.the-variants.{Leaf, Two, One, Bad}
 
--- a refusal of the sheet, at most so far on: its number is 1, or 8 to 13
+-- a refusal of the sheet, at most so far on, and nearer where a byte is absent: its number is 1, or 8 to 13
 pub record FaultBy (far : ℕ) (r : Refusal) : Type 0 where
   pub of-sheet : r .input ≡ Input.Sheet
   pub number-known : (r .number ≡ 1) ⊎ ((8 ≤ r .number) × (r .number ≤ 13))
   pub place-small : r .place ≤ far
+  pub absent-nearer : r .number ≡ 1 → r .place < far
 
 pub number-some : {far : ℕ} {r : Refusal} → FaultBy far r → 1 ≤ r .number
 number-some f = ⊎-elim (λ e. omega arith) (λ h. omega arith) (f .number-known)
@@ -32,11 +33,11 @@ number-some f = ⊎-elim (λ e. omega arith) (λ h. omega arith) (f .number-know
 pub number-few : {far : ℕ} {r : Refusal} → FaultBy far r → r .number ≤ 13
 number-few f = ⊎-elim (λ e. omega arith) (λ h. omega arith) (f .number-known)
 
-absent : {far : ℕ} (place : ℕ) → place ≤ far → FaultBy far (sheetRefusal 1 place)
-absent place h = record { of-sheet = refl; number-known = inl refl; place-small = h }
+absent : {far : ℕ} (place : ℕ) → place < far → FaultBy far (sheetRefusal 1 place)
+absent place h = record { of-sheet = refl; number-known = inl refl; place-small = omega arith; absent-nearer = λ _. h }
 
 fault : {far : ℕ} (number place : ℕ) → 8 ≤ number → number ≤ 13 → place ≤ far → FaultBy far (sheetRefusal number place)
-fault number place some few h = record { of-sheet = refl; number-known = inr (some, few); place-small = h }
+fault number place some few h = record { of-sheet = refl; number-known = inr (some, few); place-small = h; absent-nearer = λ e. absurd (omega arith) }
 
 -- ---- a node
 
@@ -66,7 +67,7 @@ unfoldable pub NodeFound : List ℕ → ℕ → ℕ → Node → Type 0
 NodeFound s m at (Leaf node after) = LeafAt s at node after
 NodeFound s m at (Two node after) = TwoAt s at node after
 NodeFound s m at (One node byte after) = OneAt s m at node byte after
-NodeFound s m at (Bad r) = FaultBy (at + 1) r
+NodeFound s m at (Bad r) = FaultBy (at + 2) r
 
 pub node-found : (s : List ℕ) (m at : ℕ) → NodeFound s m at (nodeAt s m at)
 unfolding nodeAt NodeFound
@@ -123,7 +124,8 @@ nodes-positive (or f g) = omega arith
 nodes-positive (diamond l f) = omega arith
 nodes-positive (box l f) = omega arith
 
-pub bytes-few : (f : Formula) → length (formulaBytes f) ≤ 2 * nodes f
+-- two bytes a node, and one for a leaf
+pub bytes-few : (f : Formula) → length (formulaBytes f) < 2 * nodes f
 unfolding formulaBytes nodes
 bytes-few variable = omega arith
 bytes-few top = omega arith
@@ -134,7 +136,7 @@ bytes-few (diamond l f) = omega (arith, bytes-few f)
 bytes-few (box l f) = omega (arith, bytes-few f)
 
 nearer : {r : Refusal} {near far : ℕ} → near ≤ far → FaultBy near r → FaultBy far r
-nearer h k = record { of-sheet = k .of-sheet; number-known = k .number-known; place-small = omega arith }
+nearer h k = record { of-sheet = k .of-sheet; number-known = k .number-known; place-small = omega arith; absent-nearer = λ e. omega (arith, k .absent-nearer e) }
 
 -- the byte at a place, then what follows it
 label-in : (m byte : ℕ) → (byte < m) ⊎ (byte ≡ 255) → LabelIn m (labelOf byte)

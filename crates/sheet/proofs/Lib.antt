@@ -1,4 +1,5 @@
 pub mod Accepted
+pub mod Beginning
 pub mod Found
 pub mod Meaning
 pub mod Parsing

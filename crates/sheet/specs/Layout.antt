@@ -22,6 +22,10 @@ formulaBytes (box l f) = 6 ∷ labelByte l ∷ formulaBytes f
 unfoldable pub encode : ℕ → Formula → List ℕ
 encode kind f = 1 ∷ kind ∷ nodes f ∷ formulaBytes f
 
+-- the most bytes that a sheet has: 3, then two for each of 199 nodes and one for the last
+abbrev pub longestSheet : ℕ
+longestSheet = 402
+
 unfoldable pub LabelIn : ℕ → Label → Type 0
 LabelIn m (only a) = a < m
 LabelIn m every = Unit {0}

@@ -2,4 +2,5 @@ pub mod Meaning
 pub mod Pieces
 pub mod Promise
 pub mod ReadBack
+pub mod Room
 pub mod Scan
