@@ -5,7 +5,7 @@
 //!
 //!     checks               all of it
 //!     checks faults        the same, but what is shown is a line for each fault
-//!     checks faults NAME   with that fault in every answer which it alters
+//!     checks faults NAME   with that fault in every answer which it alters, until a part notices it
 
 mod archive;
 mod compare;
@@ -30,7 +30,7 @@ pub struct Job {
     pub run: Box<dyn Fn(&mut Checker) + Send + Sync>,
 }
 
-/// What came of each job. The threads take the next one as they come free.
+/// What came of each job. The threads take the next one as they come free; where there is a fault, until a job notices it.
 fn run(jobs: &[Job], fault: Option<&'static Fault>) -> Vec<Tally> {
     let next = AtomicUsize::new(0);
     let tallies: Mutex<Vec<Option<Tally>>> = Mutex::new(jobs.iter().map(|_| None).collect());
@@ -45,12 +45,15 @@ fn run(jobs: &[Job], fault: Option<&'static Fault>) -> Vec<Tally> {
                     // the seed is the job's own, so that the inputs do not depend on the threads
                     let mut checker = Checker::new(&mut archive, fault, job.name, i as u64);
                     (job.run)(&mut checker);
+                    if fault.is_some() && !checker.tally.wrong.is_empty() {
+                        next.store(jobs.len(), Ordering::Relaxed);
+                    }
                     tallies.lock().unwrap()[i] = Some(checker.tally);
                 }
             });
         }
     });
-    tallies.into_inner().unwrap().into_iter().map(|tally| tally.unwrap()).collect()
+    tallies.into_inner().unwrap().into_iter().flatten().collect()
 }
 
 /// What came of all jobs, where a fault is put into the archive's answers or none.

@@ -43,6 +43,7 @@ fn longest_layers(c: &mut Checker, rounds: usize) {
     settles(c, &chart, k);
     for kind in 0..3 {
         let any = [0, 255][c.random.below(2)];
+        // or (diamond 31 true), diamond X; and (box 31 false), box X
         let sheet = match kind {
             1 => [1, kind, 5, 4, 5, 31, 1, 5, any, 0],
             _ => [1, kind, 5, 3, 6, 31, 2, 6, any, 0],
