@@ -1,11 +1,11 @@
-//! One call of the archive beside the reference: the code returned, every lent number and every byte must agree.
+//! Calls of the archive, each beside the reference (src/outcome.rs).
 
 use crate::archive::{Archive, Call, Question, Room, MARGIN};
+use crate::faults::{self, Fault};
 use crate::inputs::random::Random;
-use crate::reference::refusal::{Input, Refusal};
-use crate::reference::{nearness, property, short_form};
-use std::collections::{BTreeMap, BTreeSet, HashSet};
-use std::hash::{DefaultHasher, Hash, Hasher};
+use crate::outcome::{difference, expected, Outcome};
+use crate::reference::short_form;
+use crate::tally::Tally;
 
 /// An input, and what stands in memory after it: a reader that goes past the end reads on there.
 #[derive(Clone, Copy)]
@@ -55,46 +55,18 @@ impl Told {
     }
 }
 
-/// What was asked, and what came of it.
-#[derive(Default)]
-pub struct Tally {
-    pub asked: BTreeMap<Question, u64>,
-    /// Hashes of the inputs that were asked: the same one asked again counts once.
-    pub inputs: HashSet<(Question, u64)>,
-    pub answered: BTreeMap<Question, u64>,
-    /// By question, number, input and what stood at the place.
-    pub refused: BTreeMap<(Question, u8, Input, &'static str), u64>,
-    /// Question, number, input and the place itself.
-    pub places: BTreeSet<(Question, u8, Input, usize)>,
-    pub wrong: Vec<String>,
-}
-
-impl Tally {
-    pub fn add(&mut self, other: Tally) {
-        for (question, count) in other.asked {
-            *self.asked.entry(question).or_default() += count;
-        }
-        self.inputs.extend(other.inputs);
-        for (question, count) in other.answered {
-            *self.answered.entry(question).or_default() += count;
-        }
-        for (key, count) in other.refused {
-            *self.refused.entry(key).or_default() += count;
-        }
-        self.places.extend(other.places);
-        self.wrong.extend(other.wrong);
-    }
-}
-
 pub struct Checker<'a> {
     archive: &'a mut Archive,
+    /// A fault that is put into the archive's answers.
+    fault: Option<&'static Fault>,
+    job: &'static str,
     pub random: Random,
     pub tally: Tally,
 }
 
 impl<'a> Checker<'a> {
-    pub fn new(archive: &'a mut Archive, seed: u64) -> Checker<'a> {
-        Checker { archive, random: Random::new(seed), tally: Tally::default() }
+    pub fn new(archive: &'a mut Archive, fault: Option<&'static Fault>, job: &'static str, seed: u64) -> Checker<'a> {
+        Checker { archive, fault, job, random: Random::new(seed), tally: Tally::default() }
     }
 
     pub fn marks<'b>(&mut self, chart: impl Into<Lent<'b>>, buffer: usize) -> Told {
@@ -156,15 +128,21 @@ impl<'a> Checker<'a> {
             0 => exact.saturating_sub(1),
             1 => self.random.below(exact + 1),
             2 => 0,
-            3..=7 => exact + self.random.below(100),
+            3..=6 => exact + self.random.below(100),
+            7 => exact + self.too_long(),
             _ => exact,
         }
+    }
+
+    /// A number of bytes by which a buffer may be too long, up to thousands.
+    pub fn too_long(&mut self) -> usize {
+        self.random.below(6_000)
     }
 
     /// Says what is wrong where `fine` is false.
     pub fn expect(&mut self, fine: bool, what: impl FnOnce() -> String) {
         if !fine && self.tally.wrong.len() < 5 {
-            self.tally.wrong.push(what());
+            self.tally.wrong.push(format!("{}: {}", self.job, what()));
         }
     }
 
@@ -201,78 +179,25 @@ impl<'a> Checker<'a> {
             numbers: [self.random.word(), self.random.word(), self.random.word()],
         };
 
-        let mut expected = before.clone();
-        let refused = refer(&mut expected, chart.bytes, sheet.bytes);
-        let mut told = before.clone();
-        let code = self.archive.call(&mut told);
-
-        self.count(&before, refused);
-        let fine = code == refused.map_or(0, |r| r.packed()) && told == expected;
-        self.expect(fine, || describe(&before, refused, &expected, code, &told));
-        Told { code, numbers: told.numbers, buffer: told.buffer.part().to_vec() }
-    }
-
-    fn count(&mut self, call: &Call, refused: Option<Refusal>) {
-        let (tally, question) = (&mut self.tally, call.question);
-        *tally.asked.entry(question).or_default() += 1;
-        let mut hasher = DefaultHasher::new();
-        (call.chart.part(), call.sheet.part(), call.name, call.buffer.len()).hash(&mut hasher);
-        tally.inputs.insert((question, hasher.finish()));
-        match refused {
-            None => *tally.answered.entry(question).or_default() += 1,
-            Some(r) => {
-                *tally.refused.entry((question, r.number, r.input, r.what)).or_default() += 1;
-                tally.places.insert((question, r.number, r.input, r.place));
+        let expected = expected(&before);
+        let told = self.call(&before);
+        self.tally.count(&expected);
+        match difference(&before, &expected, &told) {
+            Some(wrong) => self.expect(false, || wrong),
+            None => {
+                faults::try_all(&mut self.tally, self.job, &told, |altered| difference(&before, &expected, altered).is_some())
             }
         }
+        Told { code: told.code, numbers: told.left.numbers, buffer: told.left.buffer.part().to_vec() }
     }
-}
 
-/// What the reference says: the refusal, or what the call leaves in what it was lent.
-fn refer(call: &mut Call, chart: &[u8], sheet: &[u8]) -> Option<Refusal> {
-    let numbers = &mut call.numbers;
-    let buffer = call.buffer.part_mut();
-    let outcome = match call.question {
-        Question::Marks => nearness::marks(chart, buffer).map(|m| numbers[..2].copy_from_slice(&[m.states, m.rounds])),
-        Question::Simulation => {
-            nearness::simulation(chart, buffer).map(|m| numbers[..2].copy_from_slice(&[m.states, m.rounds]))
+    fn call(&mut self, before: &Call) -> Outcome {
+        let mut left = before.clone();
+        let code = self.archive.call(&mut left);
+        let mut told = Outcome { code, left };
+        if let Some(fault) = self.fault.filter(|fault| (fault.when)(&told)) {
+            (fault.alter)(&mut told);
         }
-        Question::Property => property::property(chart, sheet).map(|s| *numbers = [s.word, s.count, s.rounds]),
-        Question::ShortForm => short_form::short_form(chart, sheet, call.name, buffer).map(|written| numbers[0] = written),
-    };
-    outcome.err()
-}
-
-fn describe(before: &Call, refused: Option<Refusal>, expected: &Call, code: u64, told: &Call) -> String {
-    let hex = |bytes: &[u8]| bytes.iter().map(|b| format!("{b:02x}")).collect::<String>();
-    let mut out = format!(
-        "{:?}\n  chart  {}\n  sheet  {}\n  name   {}, buffer of {} bytes",
-        before.question,
-        hex(before.chart.part()),
-        hex(before.sheet.part()),
-        before.name,
-        before.buffer.len()
-    );
-    match refused {
-        Some(r) => out += &format!("\n  expected  refused {} {} {} ({})", r.input as u8, r.number, r.place, r.what),
-        None => out += &format!("\n  expected  {:?}", expected.numbers),
+        told
     }
-    match code {
-        0 => out += &format!("\n  told      {:?}", told.numbers),
-        _ => out += &format!("\n  told      refused {} {} {}", code >> 8 & 255, code & 255, code >> 16),
-    }
-    if told.numbers != expected.numbers {
-        out += &format!("\n  numbers   lent {:?}, expected {:?}, left {:?}", before.numbers, expected.numbers, told.numbers);
-    }
-    for (name, was, is) in [
-        ("chart", &expected.chart, &told.chart),
-        ("sheet", &expected.sheet, &told.sheet),
-        ("buffer", &expected.buffer, &told.buffer),
-    ] {
-        if let Some(at) = was.bytes.iter().zip(&is.bytes).position(|(a, b)| a != b) {
-            let place = at as i64 - MARGIN as i64;
-            out += &format!("\n  {name}    byte {place} is {}, expected {}", is.bytes[at], was.bytes[at]);
-        }
-    }
-    out
 }

@@ -1,17 +1,28 @@
 //! Holds the proved archive against document 01, by an independent implementation of it (reference/) on some hundred thousand
 //! inputs a question. The inputs are the same in every run. Exits with 1 where anything differs, where a question had less than
-//! 200,000 inputs, or where a refusal that can occur was not met at every place that it can have.
+//! 200,000 inputs, where a refusal that can occur was not met at every place that it can have (table.rs), where something else
+//! that must be reached was not (reach.rs), or where a fault that is put into the archive's answers was not noticed (faults/).
+//!
+//!     checks               all of it
+//!     checks faults        the same, but what is shown is a line for each fault
+//!     checks faults NAME   with that fault in every answer which it alters, until a part notices it
 
 mod archive;
 mod compare;
+mod faults;
 mod inputs;
+mod outcome;
 mod parts;
+mod reach;
 mod reference;
 mod table;
+mod tally;
 
-use compare::{Checker, Tally};
+use compare::Checker;
+use faults::Fault;
 use std::sync::atomic::{AtomicUsize, Ordering};
 use std::sync::Mutex;
+use tally::Tally;
 
 /// A share of the work, which one thread does.
 pub struct Job {
@@ -19,8 +30,8 @@ pub struct Job {
     pub run: Box<dyn Fn(&mut Checker) + Send + Sync>,
 }
 
-/// What came of each job. The threads take the next one as they come free.
-fn run(jobs: &[Job]) -> Vec<Tally> {
+/// What came of each job. The threads take the next one as they come free; where there is a fault, until a job notices it.
+fn run(jobs: &[Job], fault: Option<&'static Fault>) -> Vec<Tally> {
     let next = AtomicUsize::new(0);
     let tallies: Mutex<Vec<Option<Tally>>> = Mutex::new(jobs.iter().map(|_| None).collect());
     let threads = std::thread::available_parallelism().map_or(2, |n| n.get());
@@ -32,38 +43,55 @@ fn run(jobs: &[Job]) -> Vec<Tally> {
                     let i = next.fetch_add(1, Ordering::Relaxed);
                     let Some(job) = jobs.get(i) else { break };
                     // the seed is the job's own, so that the inputs do not depend on the threads
-                    let mut checker = Checker::new(&mut archive, i as u64);
+                    let mut checker = Checker::new(&mut archive, fault, job.name, i as u64);
                     (job.run)(&mut checker);
+                    if fault.is_some() && !checker.tally.wrong.is_empty() {
+                        next.store(jobs.len(), Ordering::Relaxed);
+                    }
                     tallies.lock().unwrap()[i] = Some(checker.tally);
                 }
             });
         }
     });
-    tallies.into_inner().unwrap().into_iter().map(|tally| tally.unwrap()).collect()
+    tallies.into_inner().unwrap().into_iter().flatten().collect()
 }
 
-fn main() {
-    let jobs = parts::jobs();
+/// What came of all jobs, where a fault is put into the archive's answers or none.
+fn whole(fault: Option<&'static Fault>) -> Tally {
     let mut whole = Tally::default();
-    for (job, mut tally) in jobs.iter().zip(run(&jobs)) {
-        for wrong in &mut tally.wrong {
-            *wrong = format!("{}: {wrong}", job.name);
-        }
-        whole.add(tally);
-    }
-    table::show(&whole);
-    let faults = table::faults(&whole);
+    // in the order of the jobs, so that the same is counted whatever the threads did
+    run(&parts::jobs(), fault).into_iter().for_each(|tally| whole.add(tally));
     // the shortest are the easiest to look at
     whole.wrong.sort_by_key(|wrong| wrong.len());
     for wrong in whole.wrong.iter().take(10) {
-        println!("\nWRONG {wrong}");
+        println!("WRONG {wrong}\n");
     }
-    for fault in faults.iter().take(20) {
-        println!("\nFAULT {fault}");
+    whole
+}
+
+/// The checks, or the faults among them alone. True where all is fine.
+fn checks(only_faults: bool) -> bool {
+    let whole = whole(None);
+    if !only_faults {
+        table::show(&whole);
+        println!();
     }
-    if !whole.wrong.is_empty() || !faults.is_empty() {
-        println!("\nchecks FAILED");
-        std::process::exit(1);
+    faults::show(&whole);
+    let failings: Vec<_> = table::failings(&whole).into_iter().chain(faults::failings(&whole)).collect();
+    for failing in failings.iter().take(30) {
+        println!("\nFAILED {failing}");
     }
-    println!("\nchecks passed");
+    whole.wrong.is_empty() && failings.is_empty()
+}
+
+fn main() {
+    let arguments: Vec<String> = std::env::args().skip(1).collect();
+    let fine = match arguments.iter().map(String::as_str).collect::<Vec<_>>()[..] {
+        [] => checks(false),
+        ["faults"] => checks(true),
+        ["faults", name] => whole(Some(faults::named(name))).wrong.is_empty(),
+        _ => panic!("checks [faults [NAME]]"),
+    };
+    println!("\nchecks {}", if fine { "passed" } else { "FAILED" });
+    std::process::exit(!fine as i32);
 }

@@ -1,8 +1,9 @@
 //! What was asked and which refusals were met, and what must have been.
 
 use crate::archive::{Question, QUESTIONS};
-use crate::compare::Tally;
+use crate::reach;
 use crate::reference::refusal::Input;
+use crate::tally::Tally;
 use std::collections::BTreeSet;
 use std::ops::RangeInclusive;
 
@@ -116,15 +117,21 @@ pub fn show(tally: &Tally) {
             QUESTIONS.map(|q| tally.places.range((q, number, input, 0)..=(q, number, input, usize::MAX)).count() as u64);
         row(&format!("{number:>4}  {input:?}"), counts);
     }
+
+    println!("\nreached by answers");
+    for (what, range) in reach::rows() {
+        let reached = tally.reached.range((what, *range.start())..=(what, *range.end())).count();
+        println!("{what:<52}{reached:>10} of {}", range.count());
+    }
 }
 
 /// What was not met and must have been, and what was met and cannot be.
-pub fn faults(tally: &Tally) -> Vec<String> {
-    let mut faults = Vec::new();
+pub fn failings(tally: &Tally) -> Vec<String> {
+    let mut failings = Vec::new();
     let (mut kinds, mut places) = (BTreeSet::new(), BTreeSet::new());
     for question in QUESTIONS {
         if different_inputs(tally, question) < LEAST_ASKED {
-            faults.push(format!("fewer than {LEAST_ASKED} inputs ({question:?})"));
+            failings.push(format!("fewer than {LEAST_ASKED} inputs ({question:?})"));
         }
         for (input, (number, range, whats)) in can_occur(question) {
             kinds.extend(whats.iter().map(|&what| (question, *number, input, what)));
@@ -133,9 +140,11 @@ pub fn faults(tally: &Tally) -> Vec<String> {
         }
     }
     let met: BTreeSet<_> = tally.refused.keys().copied().collect();
-    faults.extend(kinds.difference(&met).map(|kind| format!("not met: {kind:?}")));
-    faults.extend(met.difference(&kinds).map(|kind| format!("met and cannot be: {kind:?}")));
-    faults.extend(places.difference(&tally.places).map(|place| format!("not met at this place: {place:?}")));
-    faults.extend(tally.places.difference(&places).map(|place| format!("met where it cannot be: {place:?}")));
-    faults
+    failings.extend(kinds.difference(&met).map(|kind| format!("not met: {kind:?}")));
+    failings.extend(met.difference(&kinds).map(|kind| format!("met and cannot be: {kind:?}")));
+    failings.extend(places.difference(&tally.places).map(|place| format!("not met at this place: {place:?}")));
+    failings.extend(tally.places.difference(&places).map(|place| format!("met where it cannot be: {place:?}")));
+    let not_reached = reach::must().filter(|value| !tally.reached.contains(value));
+    failings.extend(not_reached.map(|value| format!("not reached: {value:?}")));
+    failings
 }

@@ -68,6 +68,37 @@ pub fn two_rings(r: &mut Random, a: usize, b: usize) -> Chart {
     chart(r, a + b, 2, first.chain(second).chain(more))
 }
 
+/// n states in k + 1 layers. Each has a step: in layer 0 by the last action, within the layer; in the others by action 0, to
+/// the layer below, but within the top layer where that is `closed`. Beside it every state has the same `common` steps to the
+/// top layer. So states of one layer are equal, states of two have a mark one above the lower layer's number, and marks and
+/// simulation take k rounds.
+pub fn layers(r: &mut Random, n: usize, k: usize, closed: bool, common: usize) -> Chart {
+    let m = if common == 0 { 2 } else { 32 };
+    let mut layer: Vec<usize> = (0..n).map(|i| if i <= k { i } else { r.below(k + 1) }).collect();
+    r.shuffle(&mut layer);
+    let members = |l: usize| (0..n).filter(|&s| layer[s] == l).collect::<Vec<_>>();
+    let mut steps = Vec::new();
+    for (s, &l) in layer.iter().enumerate() {
+        let (action, to) = match l {
+            _ if closed && l == k => (0, k),
+            0 => (m - 1, 0),
+            _ => (0, l - 1),
+        };
+        steps.push((s, action, r.any_of(&members(to))));
+    }
+    let mut shared = BTreeSet::new();
+    while shared.len() < common {
+        shared.insert((r.within(1, m - 2), r.any_of(&members(k))));
+    }
+    steps.extend(shared.into_iter().flat_map(|(a, t)| (0..n).map(move |s| (s, a, t))));
+    chart(r, n, m, steps)
+}
+
+/// The longest chart of such layers: a step of its own and 15 common ones for each of 64 states, 3,172 bytes.
+pub fn longest_layers(r: &mut Random, k: usize, closed: bool) -> Chart {
+    layers(r, 64, k, closed, 15)
+}
+
 /// A chart with a twin for every state: each step goes to its target, to the target's twin or to both, so that twins are equal.
 pub fn twins(r: &mut Random, half: usize, m: usize, t: usize) -> Chart {
     let small = drawn(r, half, m, t);

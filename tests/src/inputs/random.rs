@@ -36,6 +36,16 @@ impl Random {
         self.below(times) == 0
     }
 
+    pub fn any_of(&mut self, list: &[usize]) -> usize {
+        list[self.below(list.len())]
+    }
+
+    pub fn shuffle(&mut self, list: &mut [usize]) {
+        for i in 1..list.len() {
+            list.swap(i, self.below(i + 1));
+        }
+    }
+
     pub fn fill(&mut self, bytes: &mut [u8]) {
         for chunk in bytes.chunks_mut(8) {
             let word = self.word().to_le_bytes();

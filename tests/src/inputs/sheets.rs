@@ -53,6 +53,29 @@ pub fn recursive(r: &mut Random, m: usize) -> Vec<u8> {
     out
 }
 
+/// A sheet of the same meaning with `nodes` nodes, at least four more: "and" with what is true and "or" with what is false,
+/// whatever formulas these hold.
+pub fn padded(r: &mut Random, sheet: &[u8], nodes: usize, m: usize) -> Vec<u8> {
+    let mut whole = sheet[3..].to_vec();
+    let mut left = nodes - sheet[2] as usize;
+    while left > 0 {
+        let mut size = r.within(1, left - 3);
+        if left - 3 - size < 4 {
+            size = left - 3;
+        }
+        left -= 3 + size;
+        let [outer, inner, leaf] = [[3, 4, 1], [4, 3, 2]][r.below(2)];
+        let mut neutral = vec![inner, leaf];
+        formula(r, size, m, Leaves::WithVariable, &mut neutral);
+        whole = if r.once_in(2) {
+            [&[outer], neutral.as_slice(), &whole].concat()
+        } else {
+            [&[outer], whole.as_slice(), &neutral].concat()
+        };
+    }
+    [&[sheet[0], sheet[1], nodes as u8], whole.as_slice()].concat()
+}
+
 /// Any of these, with at most `largest` nodes.
 pub fn any(r: &mut Random, largest: usize, m: usize) -> Vec<u8> {
     match r.below(3) {
@@ -68,12 +91,17 @@ pub fn any(r: &mut Random, largest: usize, m: usize) -> Vec<u8> {
     }
 }
 
-/// A formula of 200 nodes, all but the last a diamond or a box: 402 bytes.
-pub fn longest(r: &mut Random, m: usize) -> Vec<u8> {
-    let mut out = vec![1, 0, 200];
-    for _ in 0..199 {
+/// A formula of so many nodes, all but the last a diamond or a box.
+pub fn nested(r: &mut Random, nodes: usize, m: usize) -> Vec<u8> {
+    let mut out = vec![1, r.below(3) as u8, nodes as u8];
+    for _ in 1..nodes {
         out.extend([[5, 6][r.below(2)], action(r, m)]);
     }
     out.push(1);
     out
+}
+
+/// 200 of them: 402 bytes.
+pub fn longest(r: &mut Random, m: usize) -> Vec<u8> {
+    nested(r, 200, m)
 }

@@ -20,6 +20,9 @@ pub const L: [u8; 17] = [3, 1, 2, 3, 1, 10, 3, 0, 0, 0, 0, 1, 0, 1, 1, 0, 2];
 pub const L_OR: [u8; 10] = [1, 1, 5, 4, 6, 0, 2, 5, 0, 0];
 pub const L_AND: [u8; 10] = [1, 1, 5, 3, 5, 0, 1, 6, 0, 0];
 
+/// The names of short forms, and the most nodes that F can have with each.
+pub const NAMES: [(u64, usize); 4] = [(0, 197), (1, 197), (2, 194), (3, 197)];
+
 fn expect_matrix(c: &mut Checker, what: &str, told: Told, states: u64, rounds: u64, cells: &[u8]) {
     let fine = told.code == 0 && told.numbers[..2] == [states, rounds] && told.buffer[..cells.len()] == *cells;
     c.expect(fine, || format!("{what}: code {} numbers {:?} cells {:?}", told.code, &told.numbers[..2], told.buffer));
@@ -120,13 +123,13 @@ fn edges(c: &mut Checker) {
 
 fn short_forms(c: &mut Checker) {
     // F: k - 1 diamonds and true
-    let f = |nodes: u8| {
-        let mut out = vec![1, 2, nodes];
+    let f = |nodes: usize| {
+        let mut out = vec![1, 2, nodes as u8];
         out.extend((1..nodes).flat_map(|_| [5, 0]));
         out.push(1);
         out
     };
-    for (name, most) in [(0, 197), (1, 197), (2, 194), (3, 197)] {
+    for (name, most) in NAMES {
         let told = c.short_form(&E, &f(most), name, 402);
         c.expect_answered("short form with the most nodes", &told);
         let told = c.short_form(&E, &f(most + 1), name, 402);

@@ -6,15 +6,34 @@ pub mod definitions;
 pub mod forms;
 pub mod order;
 pub mod places;
+pub mod rounds;
 pub mod sizes;
 pub mod small;
 pub mod valid;
 
+use crate::compare::Checker;
 use crate::Job;
+use std::ops::RangeInclusive;
+
+/// A name, sizes, and what is asked of each.
+type Sized = (&'static str, RangeInclusive<usize>, fn(&mut Checker, usize));
+
+/// Eight jobs for each of these, which share the sizes.
+fn shared<const N: usize>(parts: [Sized; N]) -> Vec<Job> {
+    let mut jobs = Vec::new();
+    for k in 0..8 {
+        jobs.extend(parts.clone().map(|(name, sizes, ask)| Job {
+            name,
+            run: Box::new(move |c| sizes.clone().filter(|size| size % 8 == k).for_each(|size| ask(c, size))),
+        }));
+    }
+    jobs
+}
 
 pub fn jobs() -> Vec<Job> {
     // the longest first, so that the threads end together
     [
+        rounds::jobs(),
         sizes::jobs(),
         places::jobs(),
         damaged::jobs(),

@@ -96,8 +96,15 @@ fn triples(c: &mut Checker, n: usize) {
         for triple in smaller.into_iter().flatten() {
             chart_refused(c, "triples that do not rise", &changed(&good, at, &triple), 7, at);
         }
+        // not greater, and out of range too: each byte is judged before the order is
+        if let Some(s) = s.checked_sub(1) {
+            chart_refused(c, "an action out of range too", &changed(&good, at, &[s, 32, t]), 6, at + 1);
+            chart_refused(c, "a target out of range too", &changed(&good, at, &[s, a, top + 1]), 6, at + 2);
+        }
     }
-    chart_refused(c, "a byte left over", &[good.as_slice(), &[0]].concat(), 8, good.len());
+    for more in 1..=50 {
+        chart_refused(c, "bytes left over", &[good.as_slice(), &vec![0; more]].concat(), 8, good.len());
+    }
 }
 
 /// The longest chart, cut at every length and with every wrong number of states.

@@ -1,13 +1,14 @@
 //! Good inputs of every size: every number of states with every number of actions, every number of transitions, every number of
 //! nodes, and charts that take the most rounds.
 
+use super::boards::NAMES;
+use super::shared;
 use crate::compare::Checker;
 use crate::inputs::sheets::Leaves;
 use crate::inputs::{charts, sheets};
 use crate::reference::chart::Chart;
 use crate::reference::short_form::added;
 use crate::Job;
-use std::ops::RangeInclusive;
 
 /// All four questions must be answered, in buffers that are just long enough or longer, and those with a buffer refused in one
 /// that is a byte shorter.
@@ -17,7 +18,7 @@ fn answered(c: &mut Checker, chart: &Chart, nodes: usize) {
     let f = sheets::drawn(&mut c.random, nodes, m, Leaves::WithoutVariable);
     let name = c.random.below(4) as u64;
     let written = f.len() + added(name);
-    let more = c.random.below(2) * c.random.below(100);
+    let more = c.random.below(2) * c.too_long();
     let told = [
         c.marks(&bytes, cells + more),
         c.simulation(&bytes, cells + more),
@@ -54,8 +55,9 @@ fn nodes(c: &mut Checker, nodes: usize) {
         c.expect_answered("a sheet", &told);
         c.sheets(&bytes, &sheet);
         let f = sheets::drawn(&mut c.random, nodes, chart.actions(), Leaves::WithoutVariable);
-        for (name, most) in [(0, 197), (1, 197), (2, 194), (3, 197)] {
-            let told = c.short_form(&bytes, &f, name, 402);
+        for (name, most) in NAMES {
+            let more = c.random.below(2) * c.too_long();
+            let told = c.short_form(&bytes, &f, name, 402 + more);
             if nodes <= most {
                 c.expect_answered("an F", &told);
             } else {
@@ -105,25 +107,16 @@ fn most_rounds(c: &mut Checker) {
     c.expect(told.numbers[1] == 31 * 33, || format!("rings of 31 and 33: {} rounds", told.numbers[1]));
 }
 
-/// A name, sizes, and what is asked of each.
-type Sized = (&'static str, RangeInclusive<usize>, fn(&mut Checker, usize));
-
 pub fn jobs() -> Vec<Job> {
     let mut jobs = vec![
         Job { name: "sizes: most rounds", run: Box::new(most_rounds) },
         Job { name: "sizes: buffers", run: Box::new(buffers) },
     ];
-    let parts: [Sized; 4] = [
+    jobs.extend(shared([
         ("sizes: states and actions", 1..=64, states_and_actions),
         ("sizes: transitions", 0..=1024, transitions),
         ("sizes: nodes", 1..=200, nodes),
         ("sizes: rounds", 2..=64, rounds),
-    ];
-    for k in 0..8 {
-        jobs.extend(parts.clone().map(|(name, sizes, ask)| Job {
-            name,
-            run: Box::new(move |c| sizes.clone().filter(|size| size % 8 == k).for_each(|size| ask(c, size))),
-        }));
-    }
+    ]));
     jobs
 }

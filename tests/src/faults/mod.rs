@@ -1,0 +1,89 @@
+//! A test of the tests. Each fault here alters some answers of the archive, only few of them and only a little, as an error
+//! that is rarely run would. Where the inputs meet such an answer, it is altered and compared once more, by the comparison that
+//! every answer goes through. A fault that this does not notice fails the run, and so does one whose answers are never met.
+
+mod matrices;
+mod refusals;
+mod sheets;
+
+use crate::archive::{Room, MARGIN};
+use crate::outcome::Outcome;
+use crate::tally::Tally;
+
+pub struct Fault {
+    pub name: &'static str,
+    /// What is wrong, and where.
+    pub what: &'static str,
+    /// The right outcomes that it alters.
+    pub when: fn(&Outcome) -> bool,
+    /// Makes such an outcome wrong, whatever else it holds.
+    pub alter: fn(&mut Outcome),
+}
+
+pub fn all() -> impl Iterator<Item = &'static Fault> {
+    [matrices::FAULTS, sheets::FAULTS, refusals::FAULTS].into_iter().flatten()
+}
+
+pub fn named(name: &str) -> &'static Fault {
+    all().find(|fault| fault.name == name).unwrap_or_else(|| panic!("no fault has the name {name}"))
+}
+
+/// The first time that an answer was met which a fault alters: whether it was noticed, after how many calls and in which part.
+#[derive(Clone, Copy)]
+pub struct Met {
+    pub noticed: bool,
+    pub after: u64,
+    pub by: &'static str,
+}
+
+impl Met {
+    /// Of two, the first, unless only the later was not noticed.
+    pub fn join(&mut self, later: Met) {
+        if self.noticed && !later.noticed {
+            *self = later;
+        }
+    }
+}
+
+/// Puts each fault that is met for the first time into a right outcome, and lets the comparison look at it.
+pub fn try_all(tally: &mut Tally, by: &'static str, right: &Outcome, notices: impl Fn(&Outcome) -> bool) {
+    let after = tally.calls();
+    for fault in all().filter(|fault| (fault.when)(right)) {
+        tally.met.entry(fault.name).or_insert_with(|| {
+            let mut wrong = right.clone();
+            (fault.alter)(&mut wrong);
+            Met { noticed: notices(&wrong), after, by }
+        });
+    }
+}
+
+/// Prints a line for each fault.
+pub fn show(tally: &Tally) {
+    for fault in all() {
+        match tally.met.get(fault.name) {
+            Some(Met { noticed: true, after, by }) => println!("{:<32} noticed at call {after:>7}, {by}", fault.name),
+            Some(Met { noticed: false, after, by }) => println!("{:<32} NOT NOTICED at call {after}, {by}", fault.name),
+            None => println!("{:<32} NOT MET", fault.name),
+        }
+    }
+    println!("faults: {} of {} noticed", all().count() - failings(tally).len(), all().count());
+}
+
+/// The faults that were not noticed.
+pub fn failings(tally: &Tally) -> Vec<String> {
+    let not_noticed = all().filter(|fault| !tally.met.get(fault.name).is_some_and(|met| met.noticed));
+    not_noticed.map(|fault| format!("not noticed: {}, {}", fault.name, fault.what)).collect()
+}
+
+impl Room {
+    /// Changes one byte of the lent part.
+    fn flip(&mut self, at: usize) {
+        self.part_mut()[at] ^= 1;
+    }
+
+    /// Changes the byte after the lent part.
+    fn flip_after(&mut self) {
+        let end = MARGIN + self.len();
+        self.bytes[end] ^= 1;
+    }
+}

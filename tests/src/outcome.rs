@@ -1,0 +1,149 @@
+//! What comes of one call, and the one place where it is held against the reference: the code returned, every lent number and
+//! every byte must agree.
+
+use crate::archive::{Call, Question, MARGIN};
+use crate::reference::refusal::Refusal;
+use crate::reference::{nearness, property, short_form};
+
+/// The code that a call returned, and all that was lent to it as it is afterwards.
+#[derive(Clone, PartialEq, Eq)]
+pub struct Outcome {
+    pub code: u64,
+    pub left: Call,
+}
+
+impl Outcome {
+    pub fn answers(&self, question: Question) -> bool {
+        self.left.question == question && self.code == 0
+    }
+
+    pub fn refuses(&self, number: u64) -> bool {
+        self.code & 255 == number
+    }
+
+    /// The place of a refusal.
+    pub fn place(&self) -> usize {
+        (self.code >> 16) as usize
+    }
+
+    /// A byte of the chart, 0 where there is none.
+    pub fn chart_byte(&self, at: usize) -> usize {
+        self.left.chart.part().get(at).copied().unwrap_or(0) as usize
+    }
+
+    pub fn states(&self) -> usize {
+        self.chart_byte(0)
+    }
+
+    pub fn actions(&self) -> usize {
+        self.chart_byte(1 + self.states())
+    }
+
+    /// Where the triples start.
+    pub fn first_triple(&self) -> usize {
+        self.states() + self.actions() + 4
+    }
+
+    pub fn transitions(&self) -> usize {
+        let end = self.first_triple();
+        self.chart_byte(end - 2) + 256 * self.chart_byte(end - 1)
+    }
+
+    /// Of a good chart: as many states, actions and transitions as can be.
+    pub fn of_longest(&self) -> bool {
+        self.left.chart.len() == 3172
+    }
+
+    /// The kind that the sheet says, if it does.
+    pub fn kind(&self) -> Option<u8> {
+        self.left.sheet.part().get(1).copied()
+    }
+
+    /// The nodes of the sheet's formula.
+    pub fn nodes(&self) -> usize {
+        self.left.sheet.part().get(2).copied().unwrap_or(0) as usize
+    }
+
+    /// The rounds of an answer; a short form has none.
+    pub fn rounds(&self) -> u64 {
+        match self.left.question {
+            Question::Marks | Question::Simulation => self.left.numbers[1],
+            Question::Property => self.left.numbers[2],
+            Question::ShortForm => 0,
+        }
+    }
+
+    /// How many bytes at the buffer's start an answer fills.
+    pub fn filled(&self) -> usize {
+        match self.left.question {
+            Question::Marks | Question::Simulation => self.states().pow(2),
+            Question::Property => 0,
+            Question::ShortForm => self.left.numbers[0] as usize,
+        }
+    }
+
+    /// By how many bytes the buffer of an answer is longer than needed.
+    pub fn spare(&self) -> usize {
+        self.left.buffer.len() - self.filled()
+    }
+}
+
+/// What the reference says.
+pub struct Expected {
+    pub refused: Option<Refusal>,
+    pub outcome: Outcome,
+}
+
+pub fn expected(before: &Call) -> Expected {
+    let mut left = before.clone();
+    let (chart, sheet) = (before.chart.part(), before.sheet.part());
+    let (numbers, buffer) = (&mut left.numbers, left.buffer.part_mut());
+    let answer = match before.question {
+        Question::Marks => nearness::marks(chart, buffer).map(|m| numbers[..2].copy_from_slice(&[m.states, m.rounds])),
+        Question::Simulation => {
+            nearness::simulation(chart, buffer).map(|m| numbers[..2].copy_from_slice(&[m.states, m.rounds]))
+        }
+        Question::Property => property::property(chart, sheet).map(|s| *numbers = [s.word, s.count, s.rounds]),
+        Question::ShortForm => short_form::short_form(chart, sheet, before.name, buffer).map(|written| numbers[0] = written),
+    };
+    let refused = answer.err();
+    Expected { refused, outcome: Outcome { code: refused.map_or(0, |r| r.packed()), left } }
+}
+
+/// The comparison: nothing where all agrees, and else what was asked and where it differs.
+pub fn difference(before: &Call, expected: &Expected, told: &Outcome) -> Option<String> {
+    (*told != expected.outcome).then(|| describe(before, expected, told))
+}
+
+fn describe(before: &Call, expected: &Expected, told: &Outcome) -> String {
+    let hex = |bytes: &[u8]| bytes.iter().map(|b| format!("{b:02x}")).collect::<String>();
+    let (was, is) = (&expected.outcome.left, &told.left);
+    let mut out = format!(
+        "{:?}\n  chart  {}\n  sheet  {}\n  name   {}, buffer of {} bytes",
+        before.question,
+        hex(before.chart.part()),
+        hex(before.sheet.part()),
+        before.name,
+        before.buffer.len()
+    );
+    match expected.refused {
+        Some(r) => out += &format!("\n  expected  refused {} {} {} ({})", r.input as u8, r.number, r.place, r.what),
+        None => out += &format!("\n  expected  {:?}", was.numbers),
+    }
+    match told.code {
+        0 => out += &format!("\n  told      {:?}", is.numbers),
+        code => out += &format!("\n  told      refused {} {} {}", code >> 8 & 255, code & 255, code >> 16),
+    }
+    if is.numbers != was.numbers {
+        out += &format!("\n  numbers   lent {:?}, expected {:?}, left {:?}", before.numbers, was.numbers, is.numbers);
+    }
+    for (name, was, is) in
+        [("chart", &was.chart, &is.chart), ("sheet", &was.sheet, &is.sheet), ("buffer", &was.buffer, &is.buffer)]
+    {
+        if let Some(at) = was.bytes.iter().zip(&is.bytes).position(|(a, b)| a != b) {
+            let place = at as i64 - MARGIN as i64;
+            out += &format!("\n  {name}    byte {place} is {}, expected {}", is.bytes[at], was.bytes[at]);
+        }
+    }
+    out
+}
