@@ -1,16 +1,17 @@
 -- What the first bytes of a file say of the whole: a refusal other than 1 stands whatever follows, anything after a whole chart is refused 8,
 -- and 3,173 bytes decide.
 use Prim.Native.Nat.{ℕ, zero, suc, _+_, _-_, _*_, _<_, _≤_}
-use mathlib.Core.Path.{_≡_, refl, ap, sym, _∙_}
+use mathlib.Core.Path.{_≡_, refl, ap, ap₂, sym, _∙_}
 use mathlib.Core.List.{List, _∷_, _++_}
 use mathlib.Core.Logic.{_⊎_, inl, inr}
 use native.Mathlib.Omega.{arith}
-use native.Mathlib.Decide.{decLe}
+use native.Mathlib.Decide.{decLe, ℕ-discrete}
 use lib.ListN.{length, getD, take, drop, length-append, take-append-drop, List·getD-append}
 use lib.Seq.{length-take-le, take-all}
 use lib.Dec.{ltb}
 use Rattle.settle.specs.Test.{pick}
 use Rattle.refusal.specs.Refusal.{chartRefusal}
+use Rattle.refusal.specs.declared.Input as Input
 use Rattle.refusal.specs.declared.Refusal.{Refusal}
 use Rattle.chart.specs.Layout.{longestChart}
 use Rattle.chart.specs.Reading.{andThen, presence, codeOrder, judgeCodes, judgeByte, tripleOrder, judgeTriple, judgeTriples, whereFine, readTransitions, readActions, readChart}
@@ -22,7 +23,7 @@ use Rattle.chart.specs.declared.ChartRead.the-variants as Read
 use Rattle.chart.proofs.Reading.{present, byte-fine}
 use Rattle.chart.proofs.Judging.{triples-fine}
 use Rattle.chart.proofs.Accepted.{accepted, accepted-short, reached}
-use Rattle.chart.proofs.Refused.{refused}
+use Rattle.chart.proofs.Refused.{Placed, refused}
 use Rattle.chart.proofs.Continued.{same-test, needed-byte, left-over}
 
 -- ---- judging: a needed byte is absent from s, or s is judged as the whole is
@@ -174,3 +175,30 @@ first-bytes-decide s k h = elim (decLe (length s) k) [ yes l ↦ ap readChart (t
         go q (inl g) = absurd (omega (arith, refused (take k s) _ g .place-few))
         go q (inr (inl g)) = sym g ∙ ap readChart (take-append-drop k s)
         go q (inr (inr (sh, g, f))) = absurd (omega (arith, accepted-short (take k s) sh g))
+
+-- nothing before the place of a refusal is at fault: the bytes before it break off, and are a whole chart where the refusal is 8
+abbrev pub FineBefore : List ℕ → Refusal → Type 0
+FineBefore s r = (readChart (take (r .place) s) ≡ Read.Refused (chartRefusal 1 (r .place))) ⊎ ((r .number ≡ 8) × (sh : Shape) × (readChart (take (r .place) s) ≡ Read.Chart sh))
+
+pub before-the-place : (s : List ℕ) (r : Refusal) → readChart s ≡ Read.Refused r → FineBefore s r
+before-the-place s r e = elim (ℕ-discrete (r .number) 1) [ yes one ↦ inl (breaks one) | no other ↦ cut other (w .here other) ]
+  where
+    w : Placed s r
+    w = refused s r e
+
+    breaks : r .number ≡ 1 → readChart (take (r .place) s) ≡ Read.Refused (chartRefusal 1 (r .place))
+    breaks one =
+        ap readChart (take-all (r .place) s (omega (arith, w .absent-at one)))
+        ∙ e
+        ∙ ap₂ (λ (i : Input.Input) (k : ℕ). Read.Refused (record { input = i; number = k; place = r .place })) (w .of-chart) one
+
+    cut : (r .number ≡ 1 → ⊥) → r .place < length s → FineBefore s r
+    cut other here = go (length-take-le (r .place) s (omega arith)) (rw (take-append-drop (r .place) s) at (chart-kept (take (r .place) s) (drop (r .place) s)))
+      where
+        go : length (take (r .place) s) ≡ r .place → Fate (take (r .place) s) (readChart (take (r .place) s)) (readChart s) → FineBefore s r
+        go q (inl g) = inl (g ∙ ap (λ (k : ℕ). Read.Refused (chartRefusal 1 k)) q)
+        go q (inr (inl g)) = absurd (omega (arith, refused (take (r .place) s) r (sym g ∙ e) .here other))
+        go q (inr (inr (sh, g, h))) = let z : r .number ≡ 8 = number-8 (sym e ∙ h) in inr (z, sh, g)
+          where
+            number-8 : Read.Refused r ≡ Read.Refused (chartRefusal 8 (length (take (r .place) s))) → r .number ≡ 8
+            number-8 d = let y : r ≡ chartRefusal 8 (length (take (r .place) s)) = cc in ap (λ (x : Refusal). x .number) y

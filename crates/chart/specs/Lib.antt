@@ -1,3 +1,4 @@
 pub mod Chart
 pub mod Layout
 pub mod Reading
+pub mod Fault

@@ -1,15 +1,16 @@
 -- What the first bytes of a sheet say of the whole: a refusal other than 1 stands whatever follows, anything after a whole sheet is refused 8,
 -- and 403 bytes decide.
 use Prim.Native.Nat.{ℕ, zero, suc, _+_, _-_, _<_, _≤_}
-use mathlib.Core.Path.{_≡_, refl, ap, sym, _∙_}
+use mathlib.Core.Path.{_≡_, refl, ap, ap₂, sym, _∙_}
 use mathlib.Core.List.{List, _∷_, _++_}
 use mathlib.Core.Logic.{_⊎_, inl, inr}
 use native.Mathlib.Omega.{arith}
-use native.Mathlib.Decide.{decLe}
+use native.Mathlib.Decide.{decLe, ℕ-discrete}
 use lib.ListN.{length, getD, take, drop, length-append, take-append-drop, List·getD-append}
 use lib.Seq.{length-take-le, take-all}
 use lib.Dec.{ltb, eqb}
 use Rattle.refusal.specs.Refusal.{sheetRefusal}
+use Rattle.refusal.specs.declared.Input as Input
 use Rattle.refusal.specs.declared.Refusal.{Refusal}
 use Rattle.chart.proofs.Continued.{same-test, needed-byte, left-over}
 use Rattle.sheet.specs.Formula.{Formula}
@@ -18,7 +19,7 @@ use Rattle.sheet.specs.Reading.{nodeAt, Parsed, parsed, wrong, onParsed,
 use Rattle.sheet.specs.Reading.{Sheet, sheet, refused, ending, readNodes, readSheet}
 use Rattle.sheet.specs.declared.Node.{Node}
 use Rattle.sheet.specs.declared.Node.the-variants.{Leaf, Two, One, Bad}
-use Rattle.sheet.proofs.Found.{formula-found}
+use Rattle.sheet.proofs.Found.{FaultBy, formula-found}
 use Rattle.sheet.proofs.Accepted.{layout-read, accepted-short, refusal-small}
 
 -- ---- a node, a formula: a needed byte is absent from s, or s is read as the whole is
@@ -151,3 +152,33 @@ first-bytes-decide s m k h = elim (decLe (length s) k) [ yes l ↦ ap (λ t. rea
         go q (inl (inl g)) = absurd (omega (arith, refusal-small (take k s) m _ g .absent-nearer refl))
         go q (inl (inr g)) = sym g ∙ ap (λ t. readSheet t m) (take-append-drop k s)
         go q (inr (kind, count, f, g, _)) = absurd (omega (arith, accepted-short (take k s) m kind count f g))
+
+-- nothing before the place of a refusal is at fault: the bytes before it break off; where it is 8 they are a whole sheet; and where it is 13, which is
+-- said before the next byte is looked at, they may be refused so too
+abbrev pub FineBefore : List ℕ → ℕ → Refusal → Type 0
+FineBefore s m r =
+    (readSheet (take (r .place) s) m ≡ refused (sheetRefusal 1 (r .place)))
+    ⊎ (((r .number ≡ 8) × (kind count : ℕ) × (f : Formula) × (readSheet (take (r .place) s) m ≡ sheet kind count f))
+    ⊎ ((r .number ≡ 13) × (readSheet (take (r .place) s) m ≡ refused r)))
+
+pub before-the-place : (s : List ℕ) (m : ℕ) (r : Refusal) → readSheet s m ≡ refused r → FineBefore s m r
+before-the-place s m r e = go (length-take-le (r .place) s (w .within (omega arith))) (rw (take-append-drop (r .place) s) at (sheet-kept (take (r .place) s) (drop (r .place) s) m))
+  where
+    w : FaultBy s m 0 403 r
+    w = refusal-small s m r e
+
+    number-8 : {k : ℕ} → refused r ≡ refused (sheetRefusal 8 k) → r .number ≡ 8
+    number-8 {k} d = let y : r ≡ sheetRefusal 8 k = cc in ap (λ (x : Refusal). x .number) y
+
+    go : length (take (r .place) s) ≡ r .place → Fate (take (r .place) s) (readSheet (take (r .place) s) m) (readSheet s m) → FineBefore s m r
+    go q (inl (inl g)) = inl (g ∙ ap (λ (k : ℕ). refused (sheetRefusal 1 k)) q)
+    go q (inr (kind, count, f, g, h)) = inr (inl (number-8 (sym e ∙ h), kind, count, f, g))
+    go q (inl (inr g)) =
+        let same : readSheet (take (r .place) s) m ≡ refused r = sym g ∙ e in
+        elim (ℕ-discrete (r .number) 1) [
+          | yes one ↦ inl (same ∙ ap₂ (λ (i : Input.Input) (k : ℕ). refused (record { input = i; number = k; place = r .place })) (w .of-sheet) one)
+          | no other ↦ elim (ℕ-discrete (r .number) 13) [
+            | yes last ↦ inr (inr (last, same))
+            | no more ↦ absurd (omega (arith, refusal-small (take (r .place) s) m r same .here other more))
+          ]
+        ]

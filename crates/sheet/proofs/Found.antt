@@ -17,27 +17,73 @@ use Rattle.sheet.specs.Formula.{Formula, variable, top, bottom, and, or,
 use Rattle.sheet.specs.Layout.{labelByte, formulaBytes, LabelIn, LabelsIn}
 use Rattle.sheet.specs.Reading.{nodeAt, leafOf, twoOf, labelOf, oneOf, Parsed, parsed, wrong, onParsed, operands, parse}
 use Rattle.sheet.specs.Reading.{Sheet, sheet, refused, ending, readNodes, readSheet}
+use Rattle.sheet.specs.Fault.{AtFault, absent, leftOver, equations, kind as kind-above, count as count-out, node as node-above, label, nodes as nodes-unmatched}
 use Rattle.sheet.specs.declared.Node.{Node}
 use Rattle.sheet.specs.declared.Node.the-variants.{Leaf, Two, One, Bad}
 
--- a refusal of the sheet, at most so far on, and nearer where a byte is absent: its number is 1, or 8 to 13
-pub record FaultBy (far : ℕ) (r : Refusal) : Type 0 where
+-- a refusal of the sheet, where reading starts inside it, at most so far on, and nearer where a byte is absent: its number is 1, or 8 to 13, and
+-- what that says is wrong there
+pub record FaultBy (s : List ℕ) (m from far : ℕ) (r : Refusal) : Type 0 where
   pub of-sheet : r .input ≡ Input.Sheet
   pub number-known : (r .number ≡ 1) ⊎ ((8 ≤ r .number) × (r .number ≤ 13))
   pub place-small : r .place ≤ far
   pub absent-nearer : r .number ≡ 1 → r .place < far
+  pub within : from ≤ length s → r .place ≤ length s
+  pub here : (r .number ≡ 1 → ⊥) → (r .number ≡ 13 → ⊥) → r .place < length s
+  pub at-fault : AtFault s m (r .number) (r .place)
 
-pub number-some : {far : ℕ} {r : Refusal} → FaultBy far r → 1 ≤ r .number
-number-some f = ⊎-elim (λ e. omega arith) (λ h. omega arith) (f .number-known)
+module _ {s : List ℕ} {m from far : ℕ} where
+  pub number-some : {r : Refusal} → FaultBy s m from far r → 1 ≤ r .number
+  number-some f = ⊎-elim (λ e. omega arith) (λ h. omega arith) (f .number-known)
 
-pub number-few : {far : ℕ} {r : Refusal} → FaultBy far r → r .number ≤ 13
-number-few f = ⊎-elim (λ e. omega arith) (λ h. omega arith) (f .number-known)
+  pub number-few : {r : Refusal} → FaultBy s m from far r → r .number ≤ 13
+  number-few f = ⊎-elim (λ e. omega arith) (λ h. omega arith) (f .number-known)
 
-absent : {far : ℕ} (place : ℕ) → place < far → FaultBy far (sheetRefusal 1 place)
-absent place h = record { of-sheet = refl; number-known = inl refl; place-small = omega arith; absent-nearer = λ _. h }
+  broken-off : length s < far → FaultBy s m from far (sheetRefusal 1 (length s))
+  broken-off h = record {
+    of-sheet = refl;
+    number-known = inl refl;
+    place-small = omega arith;
+    absent-nearer = λ _. h;
+    within = λ _. omega arith;
+    here = λ f g. absurd (f refl);
+    at-fault = absent refl refl;
+  }
 
-fault : {far : ℕ} (number place : ℕ) → 8 ≤ number → number ≤ 13 → place ≤ far → FaultBy far (sheetRefusal number place)
-fault number place some few h = record { of-sheet = refl; number-known = inr (some, few); place-small = h; absent-nearer = λ e. absurd (omega arith) }
+  -- a byte that is there is at fault
+  fault : (number place : ℕ) → 8 ≤ number → number ≤ 12 → place ≤ far → place < length s → AtFault s m number place → FaultBy s m from far (sheetRefusal number place)
+  fault number place some few h here f = record {
+    of-sheet = refl;
+    number-known = inr (some, omega arith);
+    place-small = h;
+    absent-nearer = λ e. absurd (omega arith);
+    within = λ _. omega arith;
+    here = λ _ _. here;
+    at-fault = f;
+  }
+
+  unmatched : (place : ℕ) → place ≤ far → (from ≤ length s → place ≤ length s) → FaultBy s m from far (sheetRefusal 13 place)
+  unmatched place h inside = record {
+    of-sheet = refl;
+    number-known = inr (omega arith, omega arith);
+    place-small = h;
+    absent-nearer = λ e. absurd (omega arith);
+    within = inside;
+    here = λ f g. absurd (g refl);
+    at-fault = nodes-unmatched refl;
+  }
+
+  -- what is read further on, inside the sheet where this is
+  nearer : {r : Refusal} {next near : ℕ} → near ≤ far → (from ≤ length s → next ≤ length s) → FaultBy s m next near r → FaultBy s m from far r
+  nearer h inside k = record {
+    of-sheet = k .of-sheet;
+    number-known = k .number-known;
+    place-small = omega arith;
+    absent-nearer = λ e. omega (arith, k .absent-nearer e);
+    within = λ i. k .within (inside i);
+    here = k .here;
+    at-fault = k .at-fault;
+  }
 
 -- ---- a node
 
@@ -67,7 +113,7 @@ unfoldable pub NodeFound : List ℕ → ℕ → ℕ → Node → Type 0
 NodeFound s m at (Leaf node after) = LeafAt s at node after
 NodeFound s m at (Two node after) = TwoAt s at node after
 NodeFound s m at (One node byte after) = OneAt s m at node byte after
-NodeFound s m at (Bad r) = FaultBy (at + 2) r
+NodeFound s m at (Bad r) = FaultBy s m at (at + 2) r
 
 pub node-found : (s : List ℕ) (m at : ℕ) → NodeFound s m at (nodeAt s m at)
 unfolding nodeAt NodeFound
@@ -75,14 +121,15 @@ node-found s m at =
     let found : Node → Type 0 = NodeFound s m at in
     let node : ℕ = getD s at 0 in
     let byte : ℕ = getD s (at + 1) 0 in
-    by-test found (leb (length s) at) (λ h. absent (length s) (omega (arith, leb-true (length s) at h))) (λ h₁.
+    by-test found (leb (length s) at) (λ h. broken-off (omega (arith, leb-true (length s) at h))) (λ h₁.
     by-test found (ltb node 3) (λ h. record { here = leb-false _ _ h₁; node-is = refl; known = ltb-true _ _ h; next = refl }) (λ h₂.
     by-test found (ltb node 5) (λ h. record { here = leb-false _ _ h₁; node-is = refl; above = ltb-false _ _ h₂; known = ltb-true _ _ h; next = refl }) (λ h₃.
-    by-test found (ltb 6 node) (λ h. fault 11 at (omega arith) (omega arith) (omega arith)) (λ h₄.
-    by-test found (leb (length s) (at + 1)) (λ h. absent (length s) (omega (arith, leb-true (length s) (at + 1) h))) (λ h₅.
+    by-test found (ltb 6 node) (λ h. fault 11 at (omega arith) (omega arith) (omega arith) (leb-false _ _ h₁) (node-above refl (ltb-true _ _ h))) (λ h₄.
+    by-test found (leb (length s) (at + 1)) (λ h. broken-off (omega (arith, leb-true (length s) (at + 1) h))) (λ h₅.
     by-test found (ltb byte m) (λ h. one h₃ h₄ h₅ (inl (ltb-true _ _ h))) (λ h₆.
     by-test found (eqb byte 255) (λ h. one h₃ h₄ h₅ (inr (eqb-true _ _ h))) (λ h₇.
-    fault 12 (at + 1) (omega arith) (omega arith) (omega arith))))))))
+    fault 12 (at + 1) (omega arith) (omega arith) (omega arith) (leb-false _ _ h₅)
+    (label refl at refl (ltb-false _ _ h₃) (ltb-false _ _ h₄) (ltb-false _ _ h₆) (eqb-false _ _ h₇)))))))))
   where
     one : ltb (getD s at 0) 5 ≡ false → ltb 6 (getD s at 0) ≡ false → leb (length s) (at + 1) ≡ false
         → (getD s (at + 1) 0 < m) ⊎ (getD s (at + 1) 0 ≡ 255) → OneAt s m at (getD s at 0) (getD s (at + 1) 0) (at + 2)
@@ -112,7 +159,7 @@ pub record FormulaAt (s : List ℕ) (m at left : ℕ) (f : Formula) (after rest 
 -- at most two bytes a node
 unfoldable pub ParseFound : List ℕ → ℕ → ℕ → ℕ → Parsed → Type 0
 ParseFound s m at left (parsed f after rest) = FormulaAt s m at left f after rest
-ParseFound s m at left (wrong r) = FaultBy (at + 2 * left) r
+ParseFound s m at left (wrong r) = FaultBy s m at (at + 2 * left) r
 
 pub nodes-positive : (f : Formula) → 1 ≤ nodes f
 unfolding nodes
@@ -134,9 +181,6 @@ bytes-few (and f g) = omega (arith, bytes-few f, bytes-few g, length-append (for
 bytes-few (or f g) = omega (arith, bytes-few f, bytes-few g, length-append (formulaBytes f) (formulaBytes g))
 bytes-few (diamond l f) = omega (arith, bytes-few f)
 bytes-few (box l f) = omega (arith, bytes-few f)
-
-nearer : {r : Refusal} {near far : ℕ} → near ≤ far → FaultBy near r → FaultBy far r
-nearer h k = record { of-sheet = k .of-sheet; number-known = k .number-known; place-small = omega arith; absent-nearer = λ e. omega (arith, k .absent-nearer e) }
 
 -- the byte at a place, then what follows it
 label-in : (m byte : ℕ) → (byte < m) ⊎ (byte ≡ 255) → LabelIn m (labelOf byte)
@@ -232,30 +276,30 @@ module _ (s : List ℕ) (m at left : ℕ) where
   operands-found : 0 < left → (read : ℕ → ℕ → Parsed) → ((from many : ℕ) → ParseFound s m from many (read from many))
       → (node : Node) → NodeFound s m at node → ParseFound s m at left (operands node (left - 1) read)
   unfolding NodeFound ParseFound
-  operands-found h read all (Bad r) k = nearer (omega arith) k
+  operands-found h read all (Bad r) k = nearer (omega arith) (λ i. i) k
   operands-found h read all (Leaf node after) k = leaf-found node after h k
   operands-found h read all (One node byte next) k = one (read next (left - 1)) (all next (left - 1))
     where
       one : (p : Parsed) → ParseFound s m next (left - 1) p → ParseFound s m at left (onParsed p (λ f after rest. parsed (oneOf node byte f) after rest))
       one (parsed f after rest) F = one-found h k F
-      one (wrong r) F = nearer (omega arith) F
+      one (wrong r) F = nearer (omega arith) (λ _. omega (arith, k .here)) F
   operands-found h read all (Two node next) k = two (read next (left - 1)) (all next (left - 1))
     where
       last : {f : Formula} {between some : ℕ} → FormulaAt s m next (left - 1) f between some → (p : Parsed) → ParseFound s m between some p
           → ParseFound s m at left (onParsed p (λ g after rest. parsed (twoOf node f g) after rest))
       last F (parsed g after rest) G = two-found h k F G
-      last {f} F (wrong r) G = nearer (omega (arith, F .counted, F .stands .next, bytes-few f)) G
+      last {f} F (wrong r) G = nearer (omega (arith, F .counted, F .stands .next, bytes-few f)) (λ _. F .stands .inside) G
 
       two : (p : Parsed) → ParseFound s m next (left - 1) p
           → ParseFound s m at left (onParsed p (λ f between some. onParsed (read between some) (λ g after rest. parsed (twoOf node f g) after rest)))
       two (parsed f between some) F = last F (read between some) (all between some)
-      two (wrong r) F = nearer (omega arith) F
+      two (wrong r) F = nearer (omega arith) (λ _. omega (arith, k .here)) F
 
 parse-found : (fuel : ℕ) (s : List ℕ) (m at left : ℕ) → ParseFound s m at left (parse fuel s m at left)
 unfolding parse ParseFound
-parse-found zero s m at left = fault 13 at (omega arith) (omega arith) (omega arith)
+parse-found zero s m at left = unmatched at (omega arith) (λ i. i)
 parse-found (suc deep) s m at left =
-    by-test (ParseFound s m at left) (eqb left 0) (λ h. fault 13 at (omega arith) (omega arith) (omega arith)) (λ h.
+    by-test (ParseFound s m at left) (eqb left 0) (λ h. unmatched at (omega arith) (λ i. i)) (λ h.
     operands-found s m at left (omega (arith, eqb-false left 0 h)) (λ after rest. parse deep s m after rest) (parse-found deep s m) (nodeAt s m at) (node-found s m at))
 
 pub formula-found : (fuel : ℕ) (s : List ℕ) (m at left : ℕ) (f : Formula) (after rest : ℕ)
@@ -263,7 +307,7 @@ pub formula-found : (fuel : ℕ) (s : List ℕ) (m at left : ℕ) (f : Formula) 
 unfolding ParseFound
 formula-found fuel s m at left f after rest e = rw e at (parse-found fuel s m at left)
 
-pub fault-found : (fuel : ℕ) (s : List ℕ) (m at left : ℕ) (r : Refusal) → parse fuel s m at left ≡ wrong r → FaultBy (at + 2 * left) r
+pub fault-found : (fuel : ℕ) (s : List ℕ) (m at left : ℕ) (r : Refusal) → parse fuel s m at left ≡ wrong r → FaultBy s m at (at + 2 * left) r
 unfolding ParseFound
 fault-found fuel s m at left r e = rw e at (parse-found fuel s m at left)
 
@@ -285,30 +329,30 @@ pub record SheetAt (s : List ℕ) (m kind count : ℕ) (f : Formula) : Type 0 wh
 
 unfoldable pub SheetFound : List ℕ → ℕ → Sheet → Type 0
 SheetFound s m (sheet kind count f) = SheetAt s m kind count f
-SheetFound s m (refused r) = FaultBy 403 r
+SheetFound s m (refused r) = FaultBy s m 0 403 r
 
 pub sheet-found : (s : List ℕ) (m : ℕ) → SheetFound s m (readSheet s m)
 unfolding readSheet readNodes SheetFound ParseFound
 sheet-found s m =
     let found : Sheet → Type 0 = SheetFound s m in
     let count : ℕ = getD s 2 0 in
-    by-test found (leb (length s) 0) (λ h. absent (length s) (omega (arith, leb-true (length s) 0 h))) (λ h₀.
+    by-test found (leb (length s) 0) (λ h. broken-off (omega (arith, leb-true (length s) 0 h))) (λ h₀.
     by-test found (eqb (getD s 0 0) 1) (λ h₁.
-    by-test found (leb (length s) 1) (λ h. absent (length s) (omega (arith, leb-true (length s) 1 h))) (λ h₂.
-    by-test found (ltb 2 (getD s 1 0)) (λ h. fault 9 1 (omega arith) (omega arith) (omega arith)) (λ h₃.
-    by-test found (leb (length s) 2) (λ h. absent (length s) (omega (arith, leb-true (length s) 2 h))) (λ h₄.
-    by-test found (ltb count 1) (λ h. fault 10 2 (omega arith) (omega arith) (omega arith)) (λ h₅.
-    by-test found (ltb 200 count) (λ h. fault 10 2 (omega arith) (omega arith) (omega arith)) (λ h₆.
+    by-test found (leb (length s) 1) (λ h. broken-off (omega (arith, leb-true (length s) 1 h))) (λ h₂.
+    by-test found (ltb 2 (getD s 1 0)) (λ h. fault 9 1 (omega arith) (omega arith) (omega arith) (leb-false _ _ h₂) (kind-above refl refl (ltb-true _ _ h))) (λ h₃.
+    by-test found (leb (length s) 2) (λ h. broken-off (omega (arith, leb-true (length s) 2 h))) (λ h₄.
+    by-test found (ltb count 1) (λ h. fault 10 2 (omega arith) (omega arith) (omega arith) (leb-false _ _ h₄) (count-out refl refl (inl (omega (arith, ltb-true count 1 h))))) (λ h₅.
+    by-test found (ltb 200 count) (λ h. fault 10 2 (omega arith) (omega arith) (omega arith) (leb-false _ _ h₄) (count-out refl refl (inr (ltb-true 200 count h)))) (λ h₆.
     end h₁ h₃ h₄ h₆ (parse count s m 3 count) refl (parse-found count s m 3 count)))))))
-    (λ h. fault 9 0 (omega arith) (omega arith) (omega arith)))
+    (λ h. fault 9 0 (omega arith) (omega arith) (omega arith) (leb-false _ _ h₀) (equations refl refl (eqb-false _ _ h))))
   where
     end : eqb (getD s 0 0) 1 ≡ true → ltb 2 (getD s 1 0) ≡ false → leb (length s) 2 ≡ false → ltb 200 (getD s 2 0) ≡ false
         → (p : Parsed) → parse (getD s 2 0) s m 3 (getD s 2 0) ≡ p → ParseFound s m 3 (getD s 2 0) p → SheetFound s m (ending s (getD s 1 0) (getD s 2 0) p)
-    end h₁ h₃ h₄ h₆ (wrong r) e k = nearer (omega (arith, ltb-false 200 (getD s 2 0) h₆)) k
+    end h₁ h₃ h₄ h₆ (wrong r) e k = nearer (omega (arith, ltb-false 200 (getD s 2 0) h₆)) (λ _. omega (arith, leb-false (length s) 2 h₄)) k
     end h₁ h₃ h₄ h₆ (parsed f after left) e k =
         let few : after ≤ 403 = omega (arith, ltb-false 200 (getD s 2 0) h₆, bytes-few f, k .stands .next, k .counted) in
-        by-test (SheetFound s m) (ltb 0 left) (λ h. fault 13 after (omega arith) (omega arith) few) (λ h₇.
-        by-test (SheetFound s m) (ltb after (length s)) (λ h. fault 8 after (omega arith) (omega arith) few) (λ h₈.
+        by-test (SheetFound s m) (ltb 0 left) (λ h. unmatched after few (λ _. k .stands .inside)) (λ h₇.
+        by-test (SheetFound s m) (ltb after (length s)) (λ h. let here : after < length s = ltb-true _ _ h in fault 8 after (omega arith) (omega arith) few here (leftOver refl here)) (λ h₈.
         let z : left ≡ 0 = omega (arith, ltb-false 0 left h₇) in
         record {
           begins = leb-false _ _ h₄;

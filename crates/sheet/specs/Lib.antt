@@ -3,3 +3,4 @@ pub mod Layout
 pub mod Meaning
 pub mod Reading
 pub mod Solution
+pub mod Fault
