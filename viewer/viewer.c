@@ -8,7 +8,8 @@
  *     rt staticlib viewer
  *     gcc -std=c11 -Iinclude viewer/viewer.c target/staticlib/libviewer.a -o target/viewer
  *
- * Exit status: 0 all shown, 1 something was refused, 2 no file, wrong arguments or output that could not be written. */
+ * Exit status: 0 all shown, 1 something was refused, 2 no file, wrong arguments or output that could not be written. Where the
+ * reader of a pipe has gone, the system ends it by a signal, as it does every program. */
 #include "rebatelion.h"
 
 #include <errno.h>

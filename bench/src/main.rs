@@ -141,13 +141,8 @@ fn safe_path(chart: &[u8], sheet: &[u8]) -> [f64; 3] {
 const MARKS: [Matrix; 3] = [archive::marks, same_shape::marks, words::marks];
 const SIMULATION: [Matrix; 3] = [archive::simulation, same_shape::simulation, words::simulation];
 
-/// The table of all cases; what is above what is asked.
-fn beside_rust() -> Vec<String> {
-    let mut above = Vec::new();
-    println!("Times in microseconds, the least of {SAMPLES} samples.\n");
-    let (question, case) = ("question", "case");
-    println!("| {question:<10} | {case:<49} | rounds |    archive | same shape |    words | archive/same | archive/words |");
-    println!("|---|---|---|---|---|---|---|---|");
+/// Marks and simulation of each chart.
+fn matrices(above: &mut Vec<String>) {
     let charts = [
         ("E", cases::e()),
         ("64 states, 32 actions, 1,024 triples, drawn", cases::drawn(64, 32, 1024)),
@@ -160,28 +155,43 @@ fn beside_rust() -> Vec<String> {
     for (asked, calls) in [(cases::MARKS, MARKS), (cases::SIMULATION, SIMULATION)] {
         for (case, chart) in &charts {
             let (rounds, times) = matrix(chart, calls);
-            row(&mut above, &asked, case, &rounds.to_string(), times);
+            row(above, &asked, case, &rounds.to_string(), times);
         }
     }
+}
+
+/// Properties, and short forms.
+fn sheets(above: &mut Vec<String>) {
     let drawn = cases::drawn(64, 32, 1024);
     for (case, chart, sheet) in [
         ("E, its sheet", cases::e(), cases::e_sheet()),
         ("1,024 triples, 5 nodes", drawn.clone(), cases::reach_rest()),
         ("1,024 triples, 200 nodes drawn", drawn.clone(), cases::drawn_sheet(32)),
-        ("1,024 triples, 200 nodes nested", drawn, cases::nested_sheet()),
+        ("1,024 triples, 200 nodes nested", drawn.clone(), cases::nested_sheet()),
         ("chain of 64, 5 nodes", cases::chain(64), cases::reach_rest()),
         ("chain of 64, 200 nodes", cases::chain(64), cases::long_reach_rest()),
     ] {
         let (rounds, times) = property(&chart, &sheet);
-        row(&mut above, &cases::PROPERTY, case, &rounds.to_string(), times);
+        row(above, &cases::PROPERTY, case, &rounds.to_string(), times);
     }
     for (case, chart, sheet) in [
         ("E, its sheet, name 2", cases::e(), cases::e_sheet()),
         ("E, 194 nodes nested, name 2", cases::e(), cases::closed_sheet(194)),
-        ("1,024 triples, 194 nodes nested, name 2", cases::drawn(64, 32, 1024), cases::closed_sheet(194)),
+        ("1,024 triples, 194 nodes nested, name 2", drawn, cases::closed_sheet(194)),
     ] {
-        row(&mut above, &cases::SHORT_FORM, case, "-", safe_path(&chart, &sheet));
+        row(above, &cases::SHORT_FORM, case, "-", safe_path(&chart, &sheet));
     }
+}
+
+/// The table of all cases; what is above what is asked.
+fn beside_rust() -> Vec<String> {
+    let mut above = Vec::new();
+    println!("Times in microseconds, the least of {SAMPLES} samples.\n");
+    let (question, case) = ("question", "case");
+    println!("| {question:<10} | {case:<49} | rounds |    archive | same shape |    words | archive/same | archive/words |");
+    println!("|---|---|---|---|---|---|---|---|");
+    matrices(&mut above);
+    sheets(&mut above);
     above
 }
 

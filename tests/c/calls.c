@@ -160,52 +160,61 @@ static void short_form(void) {
 }
 
 /* the lengths that the header names: accepted, a byte more refused 8, and buffers that are long enough */
-static void longest(void) {
-    static uint8_t chart[REBATELION_MAX_CHART + 1], sheet[REBATELION_MAX_SHEET + 1], lent[REBATELION_MATRIX];
-    size_t end = 0;
-    asked = "longest";
-    EXPECT(REBATELION_MAX_CHART, 3172);
-    EXPECT(REBATELION_MAX_SHEET, 402);
+static uint8_t longest_chart[REBATELION_MAX_CHART + 1], longest_sheet[REBATELION_MAX_SHEET + 1], room[REBATELION_MATRIX];
 
-    /* 64 states, 32 actions, and from each of 32 states one step by each action to state 0 */
-    chart[end++] = 64;
-    for (int i = 0; i < 64; i++) chart[end++] = (uint8_t)i;
-    chart[end++] = 32;
-    for (int i = 0; i < 32; i++) chart[end++] = (uint8_t)i;
-    chart[end++] = 1024 % 256;
-    chart[end++] = 1024 / 256;
+/* 64 states, 32 actions, and from each of 32 states one step by each action to state 0 */
+static size_t make_longest(uint8_t *at) {
+    const uint8_t *start = at;
+    *at++ = 64;
+    for (int i = 0; i < 64; i++) *at++ = (uint8_t)i;
+    *at++ = 32;
+    for (int i = 0; i < 32; i++) *at++ = (uint8_t)i;
+    *at++ = 1024 % 256;
+    *at++ = 1024 / 256;
     for (int i = 0; i < 1024; i++) {
-        chart[end++] = (uint8_t)(i / 32);
-        chart[end++] = (uint8_t)(i % 32);
-        chart[end++] = 0;
+        *at++ = (uint8_t)(i / 32);
+        *at++ = (uint8_t)(i % 32);
+        *at++ = 0;
     }
-    EXPECT(end, REBATELION_MAX_CHART);
+    return (size_t)(at - start);
+}
+
+static void longest(void) {
+    asked = "longest chart";
+    EXPECT(REBATELION_MAX_CHART, 3172);
+    EXPECT(make_longest(longest_chart), REBATELION_MAX_CHART);
     fill();
-    EXPECT(rebatelion_marks(chart, end, lent, REBATELION_MATRIX, &x, &y), 0);
+    EXPECT(rebatelion_marks(longest_chart, REBATELION_MAX_CHART, room, REBATELION_MATRIX, &x, &y), 0);
     EXPECT(x, REBATELION_MAX_STATES);
     EXPECT(y, 1);
     fill();
-    EXPECT_REFUSED(rebatelion_marks(chart, end + 1, lent, REBATELION_MATRIX, &x, &y), 0, 8, REBATELION_MAX_CHART);
+    EXPECT_REFUSED(rebatelion_marks(longest_chart, REBATELION_MAX_CHART + 1, room, REBATELION_MATRIX, &x, &y), 0, 8, 3172);
     EXPECT_KEPT();
-    EXPECT_REFUSED(rebatelion_marks(chart, end, lent, REBATELION_MATRIX - 1, &x, &y), 2, 14, 0);
+    EXPECT_REFUSED(rebatelion_marks(longest_chart, REBATELION_MAX_CHART, room, REBATELION_MATRIX - 1, &x, &y), 2, 14, 0);
     EXPECT_KEPT();
+}
 
+static void longest_sheets(void) {
+    const uint8_t *chart = longest_chart;
+    uint8_t *sheet = longest_sheet;
+    const size_t all = REBATELION_MAX_CHART;
+    asked = "longest sheet";
+    EXPECT(REBATELION_MAX_SHEET, 402);
     /* 199 diamonds and a leaf */
     memcpy(sheet, (uint8_t[]){1, 0, 200}, 3);
     for (int i = 0; i < 199; i++) memcpy(sheet + 3 + 2 * i, (uint8_t[]){5, 255}, 2);
     sheet[REBATELION_MAX_SHEET - 1] = 1;
-    EXPECT(rebatelion_property(chart, end, sheet, REBATELION_MAX_SHEET, &x, &y, &z), 0);
+    EXPECT(rebatelion_property(chart, all, sheet, REBATELION_MAX_SHEET, &x, &y, &z), 0);
     EXPECT(x, UINT32_MAX);
     EXPECT(y, 32);
     EXPECT(z, 1);
     fill();
-    EXPECT_REFUSED(rebatelion_property(chart, end, sheet, REBATELION_MAX_SHEET + 1, &x, &y, &z), 1, 8, REBATELION_MAX_SHEET);
+    EXPECT_REFUSED(rebatelion_property(chart, all, sheet, REBATELION_MAX_SHEET + 1, &x, &y, &z), 1, 8, 402);
     EXPECT_KEPT();
-
     /* the longest form that has 200 nodes: F of 196 diamonds and a leaf */
     sheet[2] = 197;
     sheet[3 + 2 * 196] = 1;
-    EXPECT(rebatelion_short_form(chart, end, sheet, 3 + 2 * 196 + 1, 0, lent, REBATELION_MAX_SHEET, &x), 0);
+    EXPECT(rebatelion_short_form(chart, all, sheet, 3 + 2 * 196 + 1, 0, room, REBATELION_MAX_SHEET, &x), 0);
     EXPECT(x, 400);
 }
 
@@ -215,6 +224,7 @@ int main(void) {
     property();
     short_form();
     longest();
+    longest_sheets();
     printf(wrong ? "calls from C FAILED\n" : "calls from C passed\n");
     return wrong;
 }

@@ -1,5 +1,6 @@
 /* Copies standard input to a pipe in pieces of so many bytes, each after the one before was taken: pieces SIZE PIPE <FILE.
- * So whoever reads the pipe gets one piece at a time. Ends with 1 where a piece is not taken within some seconds. */
+ * So whoever reads the pipe gets one piece at a time. Prints how many they were. Ends with 1 where a piece is not taken within
+ * some seconds. */
 #define _DEFAULT_SOURCE
 #include <fcntl.h>
 #include <stdio.h>
@@ -27,9 +28,9 @@ int main(int argc, char **argv) {
         return 2;
     }
     int pipe = open(argv[2], O_WRONLY);
-    for (;;) {
+    for (int pieces = 0;; pieces++) {
         ssize_t got = read(STDIN_FILENO, bytes, size);
-        if (got <= 0) return got < 0;
+        if (got <= 0) return printf("%d\n", pieces) < 0 || got < 0;
         if (write(pipe, bytes, (size_t)got) != got || !taken(pipe)) {
             fprintf(stderr, "pieces: not taken\n");
             return 1;

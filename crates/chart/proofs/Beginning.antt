@@ -176,12 +176,9 @@ first-bytes-decide s k h = elim (decLe (length s) k) [ yes l ↦ ap readChart (t
         go q (inr (inl g)) = sym g ∙ ap readChart (take-append-drop k s)
         go q (inr (inr (sh, g, f))) = absurd (omega (arith, accepted-short (take k s) sh g))
 
--- nothing before the place of a refusal is at fault: the bytes before it break off, and are a whole chart where the refusal is 8
-abbrev pub FineBefore : List ℕ → Refusal → Type 0
-FineBefore s r = (readChart (take (r .place) s) ≡ Read.Refused (chartRefusal 1 (r .place))) ⊎ ((r .number ≡ 8) × (sh : Shape) × (readChart (take (r .place) s) ≡ Read.Chart sh))
-
-pub before-the-place : (s : List ℕ) (r : Refusal) → readChart s ≡ Read.Refused r → FineBefore s r
-before-the-place s r e = elim (ℕ-discrete (r .number) 1) [ yes one ↦ inl (breaks one) | no other ↦ cut other (w .here other) ]
+-- nothing before the place of a refusal is at fault: the bytes before it only break off. 8 is left out, whose place is where the triples end
+pub before-the-place : (s : List ℕ) (r : Refusal) → readChart s ≡ Read.Refused r → (r .number ≡ 8 → ⊥) → readChart (take (r .place) s) ≡ Read.Refused (chartRefusal 1 (r .place))
+before-the-place s r e not-8 = elim (ℕ-discrete (r .number) 1) [ yes one ↦ breaks one | no other ↦ cut other (w .here other) ]
   where
     w : Placed s r
     w = refused s r e
@@ -192,13 +189,13 @@ before-the-place s r e = elim (ℕ-discrete (r .number) 1) [ yes one ↦ inl (br
         ∙ e
         ∙ ap₂ (λ (i : Input.Input) (k : ℕ). Read.Refused (record { input = i; number = k; place = r .place })) (w .of-chart) one
 
-    cut : (r .number ≡ 1 → ⊥) → r .place < length s → FineBefore s r
+    number-8 : {k : ℕ} → Read.Refused r ≡ Read.Refused (chartRefusal 8 k) → r .number ≡ 8
+    number-8 {k} d = let y : r ≡ chartRefusal 8 k = cc in ap (λ (x : Refusal). x .number) y
+
+    cut : (r .number ≡ 1 → ⊥) → r .place < length s → readChart (take (r .place) s) ≡ Read.Refused (chartRefusal 1 (r .place))
     cut other here = go (length-take-le (r .place) s (omega arith)) (rw (take-append-drop (r .place) s) at (chart-kept (take (r .place) s) (drop (r .place) s)))
       where
-        go : length (take (r .place) s) ≡ r .place → Fate (take (r .place) s) (readChart (take (r .place) s)) (readChart s) → FineBefore s r
-        go q (inl g) = inl (g ∙ ap (λ (k : ℕ). Read.Refused (chartRefusal 1 k)) q)
+        go : length (take (r .place) s) ≡ r .place → Fate (take (r .place) s) (readChart (take (r .place) s)) (readChart s) → readChart (take (r .place) s) ≡ Read.Refused (chartRefusal 1 (r .place))
+        go q (inl g) = g ∙ ap (λ (k : ℕ). Read.Refused (chartRefusal 1 k)) q
         go q (inr (inl g)) = absurd (omega (arith, refused (take (r .place) s) r (sym g ∙ e) .here other))
-        go q (inr (inr (sh, g, h))) = let z : r .number ≡ 8 = number-8 (sym e ∙ h) in inr (z, sh, g)
-          where
-            number-8 : Read.Refused r ≡ Read.Refused (chartRefusal 8 (length (take (r .place) s))) → r .number ≡ 8
-            number-8 d = let y : r ≡ chartRefusal 8 (length (take (r .place) s)) = cc in ap (λ (x : Refusal). x .number) y
+        go q (inr (inr (sh, g, h))) = absurd (not-8 (number-8 (sym e ∙ h)))

@@ -48,7 +48,7 @@ steps-rise i = elim (ℕ-discrete (i % 32) 31) [ yes e ↦ inl (omega arith) | n
 step-in : (i : ℕ) → i < 1024 → StepIn 64 32 (stepOf i)
 step-in i h = record { source-in = omega arith; action-in = omega arith; target-in = omega arith }
 
-full-formed : WellFormed fullChart
+pub full-formed : WellFormed fullChart
 full-formed =
     let n : length (counted (λ i. i) 0 64) ≡ 64 = counted-length (λ i. i) 0 64 in
     let m : length (counted (λ i. i) 0 32) ≡ 32 = counted-length (λ i. i) 0 32 in
@@ -96,8 +96,11 @@ nested-labels m zero = tt
 nested-labels m (suc k) = (tt, nested-labels m k)
 
 -- it is accepted, whatever actions the chart has, and as long as a sheet can be
+pub nested-formed : (m : ℕ) → Sheet.WellFormed m 0 (nested 199)
+nested-formed m = record { kind-known = omega arith; nodes-few = omega (arith, nested-nodes 199); labels-in = nested-labels m 199 }
+
 pub nested-accepted : (m : ℕ) → m ≤ 32 → readSheet (Sheet.encode 0 (nested 199)) m ≡ sheet 0 (nodes (nested 199)) (nested 199)
-nested-accepted m few = layout-written m few 0 (nested 199) (record { kind-known = omega arith; nodes-few = omega (arith, nested-nodes 199); labels-in = nested-labels m 199 })
+nested-accepted m few = layout-written m few 0 (nested 199) (nested-formed m)
 
 pub nested-length : length (Sheet.encode 0 (nested 199)) ≡ longestSheet
 unfolding Sheet.encode

@@ -1,10 +1,11 @@
--- What include/rebatelion.h says of two lengths, REBATELION_MAX_CHART and REBATELION_MAX_SHEET: 'The longest inputs that are accepted', and of
--- the second that a buffer of it 'is always long enough' for a short form.
-use Prim.Native.Nat.{ℕ, _≤_}
+-- What include/rebatelion.h says of its numbers. REBATELION_MAX_CHART and REBATELION_MAX_SHEET are 'the longest inputs that are accepted', and of the
+-- second a buffer 'is always long enough' for a short form; so is one of REBATELION_MATRIX, REBATELION_MAX_STATES times itself, for a matrix.
+use Prim.Native.Nat.{ℕ, _*_, _≤_}
 use mathlib.Core.Path.{_≡_}
 use mathlib.Core.List.{List}
 use lib.ListN.{length}
 use Rattle.refusal.specs.declared.Refusal.{Refusal}
+use Rattle.chart.specs.Layout.{Bytes}
 use Rattle.chart.specs.Reading.{readChart}
 use Rattle.chart.specs.declared.Shape.{Shape}
 use Rattle.chart.specs.declared.ChartRead.the-variants as Read
@@ -13,9 +14,10 @@ use Rattle.sheet.specs.Reading.{sheet, readSheet}
 use Rattle.lent.specs.declared.LentAnswer.the-variants.{Refused}
 use Rattle.short_form.specs.Promise.{ShortFormPromise}
 
-pub record Header (maxChart maxSheet : ℕ) : Type 0 where
+pub record Header (maxStates maxChart maxSheet : ℕ) : Type 0 where
+  pub matrix-room : (s : List ℕ) (sh : Shape) → readChart s ≡ Read.Chart sh → sh .n * sh .n ≤ maxStates * maxStates
   pub charts-short : (s : List ℕ) (sh : Shape) → readChart s ≡ Read.Chart sh → length s ≤ maxChart
-  pub chart-reaches : (s : List ℕ) × (sh : Shape) × (readChart s ≡ Read.Chart sh) × (length s ≡ maxChart)
+  pub chart-reaches : (s : List ℕ) × Bytes s × (sh : Shape) × (readChart s ≡ Read.Chart sh) × (length s ≡ maxChart)
   pub sheets-short : (s : List ℕ) (m kind count : ℕ) (f : Formula) → readSheet s m ≡ sheet kind count f → length s ≤ maxSheet
-  pub sheet-reaches : (m : ℕ) → m ≤ 32 → (s : List ℕ) × (kind count : ℕ) × (f : Formula) × (readSheet s m ≡ sheet kind count f) × (length s ≡ maxSheet)
+  pub sheet-reaches : (m : ℕ) → m ≤ 32 → (s : List ℕ) × Bytes s × (kind count : ℕ) × (f : Formula) × (readSheet s m ≡ sheet kind count f) × (length s ≡ maxSheet)
   pub room-enough : (chart s : List ℕ) (name : ℕ) (old new : List ℕ) (r : Refusal) → maxSheet ≤ length old → ShortFormPromise chart s name old new (Refused r) → r .number ≡ 14 → ⊥

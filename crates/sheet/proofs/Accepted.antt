@@ -152,6 +152,6 @@ same-bytes m few k l f g v w e =
 
 -- ---- refusals
 
-pub refusal-small : (s : List ℕ) (m : ℕ) (r : Refusal) → readSheet s m ≡ refused r → FaultBy s m 0 403 r
+pub refusal-small : (s : List ℕ) (m : ℕ) (r : Refusal) → readSheet s m ≡ refused r → FaultBy s m (Unit {0}) 403 r
 unfolding SheetFound
 refusal-small s m r e = rw e at (sheet-found s m)

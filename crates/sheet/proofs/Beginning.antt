@@ -153,32 +153,25 @@ first-bytes-decide s m k h = elim (decLe (length s) k) [ yes l ↦ ap (λ t. rea
         go q (inl (inr g)) = sym g ∙ ap (λ t. readSheet t m) (take-append-drop k s)
         go q (inr (kind, count, f, g, _)) = absurd (omega (arith, accepted-short (take k s) m kind count f g))
 
--- nothing before the place of a refusal is at fault: the bytes before it break off; where it is 8 they are a whole sheet; and where it is 13, which is
--- said before the next byte is looked at, they may be refused so too
-abbrev pub FineBefore : List ℕ → ℕ → Refusal → Type 0
-FineBefore s m r =
-    (readSheet (take (r .place) s) m ≡ refused (sheetRefusal 1 (r .place)))
-    ⊎ (((r .number ≡ 8) × (kind count : ℕ) × (f : Formula) × (readSheet (take (r .place) s) m ≡ sheet kind count f))
-    ⊎ ((r .number ≡ 13) × (readSheet (take (r .place) s) m ≡ refused r)))
-
-pub before-the-place : (s : List ℕ) (m : ℕ) (r : Refusal) → readSheet s m ≡ refused r → FineBefore s m r
-before-the-place s m r e = go (length-take-le (r .place) s (w .within (omega arith))) (rw (take-append-drop (r .place) s) at (sheet-kept (take (r .place) s) (drop (r .place) s) m))
+-- nothing before the place of a refusal is at fault: the bytes before it only break off. Before that of 8 stands a whole sheet, and 13 is said of all
+-- the nodes before it
+pub before-the-place : (s : List ℕ) (m : ℕ) (r : Refusal) → readSheet s m ≡ refused r → (r .number ≡ 8 → ⊥) → (r .number ≡ 13 → ⊥)
+    → readSheet (take (r .place) s) m ≡ refused (sheetRefusal 1 (r .place))
+before-the-place s m r e not-8 not-13 = go (length-take-le (r .place) s (w .within tt)) (rw (take-append-drop (r .place) s) at (sheet-kept (take (r .place) s) (drop (r .place) s) m))
   where
-    w : FaultBy s m 0 403 r
+    w : FaultBy s m (Unit {0}) 403 r
     w = refusal-small s m r e
 
     number-8 : {k : ℕ} → refused r ≡ refused (sheetRefusal 8 k) → r .number ≡ 8
     number-8 {k} d = let y : r ≡ sheetRefusal 8 k = cc in ap (λ (x : Refusal). x .number) y
 
-    go : length (take (r .place) s) ≡ r .place → Fate (take (r .place) s) (readSheet (take (r .place) s) m) (readSheet s m) → FineBefore s m r
-    go q (inl (inl g)) = inl (g ∙ ap (λ (k : ℕ). refused (sheetRefusal 1 k)) q)
-    go q (inr (kind, count, f, g, h)) = inr (inl (number-8 (sym e ∙ h), kind, count, f, g))
-    go q (inl (inr g)) =
-        let same : readSheet (take (r .place) s) m ≡ refused r = sym g ∙ e in
-        elim (ℕ-discrete (r .number) 1) [
-          | yes one ↦ inl (same ∙ ap₂ (λ (i : Input.Input) (k : ℕ). refused (record { input = i; number = k; place = r .place })) (w .of-sheet) one)
-          | no other ↦ elim (ℕ-discrete (r .number) 13) [
-            | yes last ↦ inr (inr (last, same))
-            | no more ↦ absurd (omega (arith, refusal-small (take (r .place) s) m r same .here other more))
-          ]
-        ]
+    same : readSheet (take (r .place) s) m ≡ refused r → r .number ≡ 1 → readSheet (take (r .place) s) m ≡ refused (sheetRefusal 1 (r .place))
+    same g one = g ∙ ap₂ (λ (i : Input.Input) (k : ℕ). refused (record { input = i; number = k; place = r .place })) (w .of-sheet) one
+
+    go : length (take (r .place) s) ≡ r .place → Fate (take (r .place) s) (readSheet (take (r .place) s) m) (readSheet s m) → readSheet (take (r .place) s) m ≡ refused (sheetRefusal 1 (r .place))
+    go q (inl (inl g)) = g ∙ ap (λ (k : ℕ). refused (sheetRefusal 1 k)) q
+    go q (inr (kind, count, f, g, h)) = absurd (not-8 (number-8 (sym e ∙ h)))
+    go q (inl (inr g)) = elim (ℕ-discrete (r .number) 1) [
+      | yes one ↦ same (sym g ∙ e) one
+      | no other ↦ absurd (omega (arith, refusal-small (take (r .place) s) m r (sym g ∙ e) .here other not-13))
+    ]

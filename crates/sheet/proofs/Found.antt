@@ -1,45 +1,46 @@
 -- What reading finds, case by case: what stands in the bytes where it succeeds, and how far on the fault lies where it does not.
 use Prim.Native.Nat.{ℕ, zero, suc, _+_, _-_, _*_, _<_, _≤_}
-use mathlib.Core.Path.{_≡_, refl, sym}
+use mathlib.Core.Path.{_≡_, refl, sym, ap, _∙_}
 use mathlib.Core.Bool.{true, false}
 use mathlib.Core.Logic.{_⊎_, inl, inr, ⊎-elim}
 use mathlib.Core.List.{List, [], _∷_, _++_, append-assoc}
 use native.Mathlib.Omega.{arith}
 use borrow.Author.Tests.{leb-true, leb-false, ltb-true, ltb-false, eqb-true, eqb-false}
 use lib.Dec.{leb, ltb, eqb}
-use lib.ListN.{length, getD, drop, length-append}
+use lib.ListN.{length, getD, take, drop, length-append}
+use lib.Seq.{take-at}
 use Rattle.settle.proofs.Test.{by-test}
 use Rattle.refusal.specs.Refusal.{sheetRefusal}
 use Rattle.refusal.specs.declared.Input.the-variants as Input
 use Rattle.refusal.specs.declared.Refusal.{Refusal}
 use Rattle.chart.proofs.Steps.{byte-then}
 use Rattle.sheet.specs.Formula.{Formula, variable, top, bottom, and, or, diamond, box, nodes}
-use Rattle.sheet.specs.Layout.{labelByte, formulaBytes, LabelIn, LabelsIn}
+use Rattle.sheet.specs.Layout.{labelByte, formulaBytes, encode, LabelIn, LabelsIn, WellFormed}
 use Rattle.sheet.specs.Reading.{nodeAt, leafOf, twoOf, labelOf, oneOf, Parsed, parsed, wrong, onParsed, operands, parse}
 use Rattle.sheet.specs.Reading.{Sheet, sheet, refused, ending, readNodes, readSheet}
-use Rattle.sheet.specs.Fault.{AtFault, absent, leftOver, equations, kind as kind-above, count as count-out, node as node-above, label, nodes as nodes-unmatched}
+use Rattle.sheet.specs.Fault.{AtFault, absent, leftOver, equations, kind as kind-above, count as count-out, node as node-above, label, nodesRemain, nodesUsedUp}
 use Rattle.sheet.specs.declared.Node.{Node}
 use Rattle.sheet.specs.declared.Node.the-variants.{Leaf, Two, One, Bad}
 
--- a refusal of the sheet, where reading starts inside it, at most so far on, and nearer where a byte is absent: its number is 1, or 8 to 13, and
--- what that says is wrong there
-pub record FaultBy (s : List ℕ) (m from far : ℕ) (r : Refusal) : Type 0 where
+-- a refusal of the sheet, at most so far on, and nearer where a byte is absent: its number is 1, or 8 to 13; and, where what is read lies inside the
+-- sheet, what the number says is wrong there
+pub record FaultBy (s : List ℕ) (m : ℕ) (Inside : Type 0) (far : ℕ) (r : Refusal) : Type 0 where
   pub of-sheet : r .input ≡ Input.Sheet
   pub number-known : (r .number ≡ 1) ⊎ ((8 ≤ r .number) × (r .number ≤ 13))
   pub place-small : r .place ≤ far
   pub absent-nearer : r .number ≡ 1 → r .place < far
-  pub within : from ≤ length s → r .place ≤ length s
+  pub within : Inside → r .place ≤ length s
   pub here : (r .number ≡ 1 → ⊥) → (r .number ≡ 13 → ⊥) → r .place < length s
-  pub at-fault : AtFault s m (r .number) (r .place)
+  pub at-fault : Inside → AtFault s m (r .number) (r .place)
 
-module _ {s : List ℕ} {m from far : ℕ} where
-  pub number-some : {r : Refusal} → FaultBy s m from far r → 1 ≤ r .number
+module _ {s : List ℕ} {m : ℕ} {Inside : Type 0} {far : ℕ} where
+  pub number-some : {r : Refusal} → FaultBy s m Inside far r → 1 ≤ r .number
   number-some f = ⊎-elim (λ e. omega arith) (λ h. omega arith) (f .number-known)
 
-  pub number-few : {r : Refusal} → FaultBy s m from far r → r .number ≤ 13
+  pub number-few : {r : Refusal} → FaultBy s m Inside far r → r .number ≤ 13
   number-few f = ⊎-elim (λ e. omega arith) (λ h. omega arith) (f .number-known)
 
-  broken-off : length s < far → FaultBy s m from far (sheetRefusal 1 (length s))
+  broken-off : length s < far → FaultBy s m Inside far (sheetRefusal 1 (length s))
   broken-off h = record {
     of-sheet = refl;
     number-known = inl refl;
@@ -47,11 +48,12 @@ module _ {s : List ℕ} {m from far : ℕ} where
     absent-nearer = λ _. h;
     within = λ _. omega arith;
     here = λ f g. absurd (f refl);
-    at-fault = absent refl refl;
+    at-fault = λ _. absent refl refl;
   }
 
   -- a byte that is there is at fault
-  fault : (number place : ℕ) → 8 ≤ number → number ≤ 12 → place ≤ far → place < length s → AtFault s m number place → FaultBy s m from far (sheetRefusal number place)
+  fault : (number place : ℕ) → 8 ≤ number → number ≤ 12 → place ≤ far → place < length s → (Inside → AtFault s m number place)
+      → FaultBy s m Inside far (sheetRefusal number place)
   fault number place some few h here f = record {
     of-sheet = refl;
     number-known = inr (some, omega arith);
@@ -62,19 +64,20 @@ module _ {s : List ℕ} {m from far : ℕ} where
     at-fault = f;
   }
 
-  unmatched : (place : ℕ) → place ≤ far → (from ≤ length s → place ≤ length s) → FaultBy s m from far (sheetRefusal 13 place)
-  unmatched place h inside = record {
+  -- nodes and operands do not match
+  unmatched : (place : ℕ) → place ≤ far → (Inside → place ≤ length s) → (Inside → AtFault s m 13 place) → FaultBy s m Inside far (sheetRefusal 13 place)
+  unmatched place h inside f = record {
     of-sheet = refl;
     number-known = inr (omega arith, omega arith);
     place-small = h;
     absent-nearer = λ e. absurd (omega arith);
     within = inside;
     here = λ f g. absurd (g refl);
-    at-fault = nodes-unmatched refl;
+    at-fault = f;
   }
 
   -- what is read further on, inside the sheet where this is
-  nearer : {r : Refusal} {next near : ℕ} → near ≤ far → (from ≤ length s → next ≤ length s) → FaultBy s m next near r → FaultBy s m from far r
+  nearer : {r : Refusal} {Further : Type 0} {near : ℕ} → near ≤ far → (Inside → Further) → FaultBy s m Further near r → FaultBy s m Inside far r
   nearer h inside k = record {
     of-sheet = k .of-sheet;
     number-known = k .number-known;
@@ -82,8 +85,12 @@ module _ {s : List ℕ} {m from far : ℕ} where
     absent-nearer = λ e. omega (arith, k .absent-nearer e);
     within = λ i. k .within (inside i);
     here = k .here;
-    at-fault = k .at-fault;
+    at-fault = λ i. k .at-fault (inside i);
   }
+
+-- a place among the nodes
+abbrev pub AmongNodes : List ℕ → ℕ → Type 0
+AmongNodes s at = (3 ≤ at) × (at ≤ length s)
 
 -- ---- a node
 
@@ -113,7 +120,7 @@ unfoldable pub NodeFound : List ℕ → ℕ → ℕ → Node → Type 0
 NodeFound s m at (Leaf node after) = LeafAt s at node after
 NodeFound s m at (Two node after) = TwoAt s at node after
 NodeFound s m at (One node byte after) = OneAt s m at node byte after
-NodeFound s m at (Bad r) = FaultBy s m at (at + 2) r
+NodeFound s m at (Bad r) = FaultBy s m (AmongNodes s at) (at + 2) r
 
 pub node-found : (s : List ℕ) (m at : ℕ) → NodeFound s m at (nodeAt s m at)
 unfolding nodeAt NodeFound
@@ -124,12 +131,12 @@ node-found s m at =
     by-test found (leb (length s) at) (λ h. broken-off (omega (arith, leb-true (length s) at h))) (λ h₁.
     by-test found (ltb node 3) (λ h. record { here = leb-false _ _ h₁; node-is = refl; known = ltb-true _ _ h; next = refl }) (λ h₂.
     by-test found (ltb node 5) (λ h. record { here = leb-false _ _ h₁; node-is = refl; above = ltb-false _ _ h₂; known = ltb-true _ _ h; next = refl }) (λ h₃.
-    by-test found (ltb 6 node) (λ h. fault 11 at (omega arith) (omega arith) (omega arith) (leb-false _ _ h₁) (node-above refl (ltb-true _ _ h))) (λ h₄.
+    by-test found (ltb 6 node) (λ h. fault 11 at (omega arith) (omega arith) (omega arith) (leb-false _ _ h₁) (λ i. node-above refl (i .0) (ltb-true _ _ h))) (λ h₄.
     by-test found (leb (length s) (at + 1)) (λ h. broken-off (omega (arith, leb-true (length s) (at + 1) h))) (λ h₅.
     by-test found (ltb byte m) (λ h. one h₃ h₄ h₅ (inl (ltb-true _ _ h))) (λ h₆.
     by-test found (eqb byte 255) (λ h. one h₃ h₄ h₅ (inr (eqb-true _ _ h))) (λ h₇.
     fault 12 (at + 1) (omega arith) (omega arith) (omega arith) (leb-false _ _ h₅)
-    (label refl at refl (ltb-false _ _ h₃) (ltb-false _ _ h₄) (ltb-false _ _ h₆) (eqb-false _ _ h₇)))))))))
+    (λ i. label refl at (i .0) refl (ltb-false _ _ h₃) (ltb-false _ _ h₄) (ltb-false _ _ h₆) (eqb-false _ _ h₇)))))))))
   where
     one : ltb (getD s at 0) 5 ≡ false → ltb 6 (getD s at 0) ≡ false → leb (length s) (at + 1) ≡ false
         → (getD s (at + 1) 0 < m) ⊎ (getD s (at + 1) 0 ≡ 255) → OneAt s m at (getD s at 0) (getD s (at + 1) 0) (at + 2)
@@ -159,7 +166,7 @@ pub record FormulaAt (s : List ℕ) (m at left : ℕ) (f : Formula) (after rest 
 -- at most two bytes a node
 unfoldable pub ParseFound : List ℕ → ℕ → ℕ → ℕ → Parsed → Type 0
 ParseFound s m at left (parsed f after rest) = FormulaAt s m at left f after rest
-ParseFound s m at left (wrong r) = FaultBy s m at (at + 2 * left) r
+ParseFound s m at left (wrong r) = FaultBy s m (AmongNodes s at) (at + 2 * left) r
 
 pub nodes-positive : (f : Formula) → 1 ≤ nodes f
 unfolding nodes
@@ -282,24 +289,27 @@ module _ (s : List ℕ) (m at left : ℕ) where
     where
       one : (p : Parsed) → ParseFound s m next (left - 1) p → ParseFound s m at left (onParsed p (λ f after rest. parsed (oneOf node byte f) after rest))
       one (parsed f after rest) F = one-found h k F
-      one (wrong r) F = nearer (omega arith) (λ _. omega (arith, k .here)) F
+      one (wrong r) F = nearer (omega arith) (λ i. (omega (arith, i .0), omega (arith, k .here))) F
   operands-found h read all (Two node next) k = two (read next (left - 1)) (all next (left - 1))
     where
       last : {f : Formula} {between some : ℕ} → FormulaAt s m next (left - 1) f between some → (p : Parsed) → ParseFound s m between some p
           → ParseFound s m at left (onParsed p (λ g after rest. parsed (twoOf node f g) after rest))
       last F (parsed g after rest) G = two-found h k F G
-      last {f} F (wrong r) G = nearer (omega (arith, F .counted, F .stands .next, bytes-few f)) (λ _. F .stands .inside) G
+      last {f} F (wrong r) G = nearer (omega (arith, F .counted, F .stands .next, bytes-few f)) (λ i. (omega (arith, i .0, F .stands .next), F .stands .inside)) G
 
       two : (p : Parsed) → ParseFound s m next (left - 1) p
           → ParseFound s m at left (onParsed p (λ f between some. onParsed (read between some) (λ g after rest. parsed (twoOf node f g) after rest)))
       two (parsed f between some) F = last F (read between some) (all between some)
-      two (wrong r) F = nearer (omega arith) (λ _. omega (arith, k .here)) F
+      two (wrong r) F = nearer (omega arith) (λ i. (omega (arith, i .0), omega (arith, k .here))) F
+
+used-up : (s : List ℕ) (m at left : ℕ) → FaultBy s m (AmongNodes s at) (at + 2 * left) (sheetRefusal 13 at)
+used-up s m at left = unmatched at (omega arith) (λ i. i .1) (λ i. nodesUsedUp refl (i .0) (i .1))
 
 parse-found : (fuel : ℕ) (s : List ℕ) (m at left : ℕ) → ParseFound s m at left (parse fuel s m at left)
 unfolding parse ParseFound
-parse-found zero s m at left = unmatched at (omega arith) (λ i. i)
+parse-found zero s m at left = used-up s m at left
 parse-found (suc deep) s m at left =
-    by-test (ParseFound s m at left) (eqb left 0) (λ h. unmatched at (omega arith) (λ i. i)) (λ h.
+    by-test (ParseFound s m at left) (eqb left 0) (λ h. used-up s m at left) (λ h.
     operands-found s m at left (omega (arith, eqb-false left 0 h)) (λ after rest. parse deep s m after rest) (parse-found deep s m) (nodeAt s m at) (node-found s m at))
 
 pub formula-found : (fuel : ℕ) (s : List ℕ) (m at left : ℕ) (f : Formula) (after rest : ℕ)
@@ -307,7 +317,7 @@ pub formula-found : (fuel : ℕ) (s : List ℕ) (m at left : ℕ) (f : Formula) 
 unfolding ParseFound
 formula-found fuel s m at left f after rest e = rw e at (parse-found fuel s m at left)
 
-pub fault-found : (fuel : ℕ) (s : List ℕ) (m at left : ℕ) (r : Refusal) → parse fuel s m at left ≡ wrong r → FaultBy s m at (at + 2 * left) r
+pub fault-found : (fuel : ℕ) (s : List ℕ) (m at left : ℕ) (r : Refusal) → parse fuel s m at left ≡ wrong r → FaultBy s m (AmongNodes s at) (at + 2 * left) r
 unfolding ParseFound
 fault-found fuel s m at left r e = rw e at (parse-found fuel s m at left)
 
@@ -327,34 +337,50 @@ pub record SheetAt (s : List ℕ) (m kind count : ℕ) (f : Formula) : Type 0 wh
   pub formula-is : parse count s m 3 count ≡ parsed f after 0
   pub ends : length s ≤ after
 
+-- a sheet's bytes to the end of a formula
+begins-with : (s : List ℕ) (f : Formula) (after : ℕ) → 2 < length s → getD s 0 0 ≡ 1 → Stands s 3 f after → take after s ≡ 1 ∷ getD s 1 0 ∷ getD s 2 0 ∷ formulaBytes f
+begins-with s f after begins one k =
+    let first : s ≡ getD s 0 0 ∷ drop 1 s = byte-then s 0 (omega arith) in
+    let second : drop 1 s ≡ getD s 1 0 ∷ drop 2 s = byte-then s 1 (omega arith) in
+    let third : drop 2 s ≡ getD s 2 0 ∷ drop 3 s = byte-then s 2 begins in
+    let head : List ℕ = 1 ∷ getD s 1 0 ∷ getD s 2 0 ∷ formulaBytes f in
+    let whole : s ≡ head ++ drop after s = cc (k .bytes) in
+    ap (take after) whole ∙ take-at head (drop after s) after (omega (arith, k .next))
+
 unfoldable pub SheetFound : List ℕ → ℕ → Sheet → Type 0
 SheetFound s m (sheet kind count f) = SheetAt s m kind count f
-SheetFound s m (refused r) = FaultBy s m 0 403 r
+SheetFound s m (refused r) = FaultBy s m (Unit {0}) 403 r
 
 pub sheet-found : (s : List ℕ) (m : ℕ) → SheetFound s m (readSheet s m)
-unfolding readSheet readNodes SheetFound ParseFound
+unfolding readSheet readNodes SheetFound ParseFound encode
 sheet-found s m =
     let found : Sheet → Type 0 = SheetFound s m in
     let count : ℕ = getD s 2 0 in
     by-test found (leb (length s) 0) (λ h. broken-off (omega (arith, leb-true (length s) 0 h))) (λ h₀.
     by-test found (eqb (getD s 0 0) 1) (λ h₁.
     by-test found (leb (length s) 1) (λ h. broken-off (omega (arith, leb-true (length s) 1 h))) (λ h₂.
-    by-test found (ltb 2 (getD s 1 0)) (λ h. fault 9 1 (omega arith) (omega arith) (omega arith) (leb-false _ _ h₂) (kind-above refl refl (ltb-true _ _ h))) (λ h₃.
+    by-test found (ltb 2 (getD s 1 0)) (λ h. fault 9 1 (omega arith) (omega arith) (omega arith) (leb-false _ _ h₂) (λ _. kind-above refl refl (ltb-true _ _ h))) (λ h₃.
     by-test found (leb (length s) 2) (λ h. broken-off (omega (arith, leb-true (length s) 2 h))) (λ h₄.
-    by-test found (ltb count 1) (λ h. fault 10 2 (omega arith) (omega arith) (omega arith) (leb-false _ _ h₄) (count-out refl refl (inl (omega (arith, ltb-true count 1 h))))) (λ h₅.
-    by-test found (ltb 200 count) (λ h. fault 10 2 (omega arith) (omega arith) (omega arith) (leb-false _ _ h₄) (count-out refl refl (inr (ltb-true 200 count h)))) (λ h₆.
+    by-test found (ltb count 1) (λ h. fault 10 2 (omega arith) (omega arith) (omega arith) (leb-false _ _ h₄) (λ _. count-out refl refl (inl (omega (arith, ltb-true count 1 h))))) (λ h₅.
+    by-test found (ltb 200 count) (λ h. fault 10 2 (omega arith) (omega arith) (omega arith) (leb-false _ _ h₄) (λ _. count-out refl refl (inr (ltb-true 200 count h)))) (λ h₆.
     end h₁ h₃ h₄ h₆ (parse count s m 3 count) refl (parse-found count s m 3 count)))))))
-    (λ h. fault 9 0 (omega arith) (omega arith) (omega arith) (leb-false _ _ h₀) (equations refl refl (eqb-false _ _ h))))
+    (λ h. fault 9 0 (omega arith) (omega arith) (omega arith) (leb-false _ _ h₀) (λ _. equations refl refl (eqb-false _ _ h))))
   where
     end : eqb (getD s 0 0) 1 ≡ true → ltb 2 (getD s 1 0) ≡ false → leb (length s) 2 ≡ false → ltb 200 (getD s 2 0) ≡ false
         → (p : Parsed) → parse (getD s 2 0) s m 3 (getD s 2 0) ≡ p → ParseFound s m 3 (getD s 2 0) p → SheetFound s m (ending s (getD s 1 0) (getD s 2 0) p)
-    end h₁ h₃ h₄ h₆ (wrong r) e k = nearer (omega (arith, ltb-false 200 (getD s 2 0) h₆)) (λ _. omega (arith, leb-false (length s) 2 h₄)) k
+    end h₁ h₃ h₄ h₆ (wrong r) e k = nearer (omega (arith, ltb-false 200 (getD s 2 0) h₆)) (λ _. (omega arith, leb-false (length s) 2 h₄)) k
     end h₁ h₃ h₄ h₆ (parsed f after left) e k =
+        let begins : take after s ≡ 1 ∷ getD s 1 0 ∷ getD s 2 0 ∷ formulaBytes f = begins-with s f after (leb-false _ _ h₄) (eqb-true _ _ h₁) (k .stands) in
         let few : after ≤ 403 = omega (arith, ltb-false 200 (getD s 2 0) h₆, bytes-few f, k .stands .next, k .counted) in
-        by-test (SheetFound s m) (ltb 0 left) (λ h. unmatched after few (λ _. k .stands .inside)) (λ h₇.
-        by-test (SheetFound s m) (ltb after (length s)) (λ h. let here : after < length s = ltb-true _ _ h in fault 8 after (omega arith) (omega arith) few here (leftOver refl here)) (λ h₈.
+        by-test (SheetFound s m) (ltb 0 left)
+        (λ h. unmatched after few (λ _. k .stands .inside) (λ _. nodesRemain refl (getD s 1 0) (getD s 2 0) f (omega (arith, k .counted, ltb-true 0 left h)) begins))
+        (λ h₇.
         let z : left ≡ 0 = omega (arith, ltb-false 0 left h₇) in
-        record {
+        let same : getD s 2 0 ≡ nodes f = omega (arith, k .counted) in
+        let form : WellFormed m (getD s 1 0) f = record { kind-known = ltb-false _ _ h₃; nodes-few = omega (arith, ltb-false 200 (getD s 2 0) h₆); labels-in = k .labels-in } in
+        by-test (SheetFound s m) (ltb after (length s))
+        (λ h. let here : after < length s = ltb-true _ _ h in fault 8 after (omega arith) (omega arith) few here (λ _. leftOver refl here (getD s 1 0) f form (rw same at begins)))
+        (λ h₈. record {
           begins = leb-false _ _ h₄;
           one-equation = eqb-true _ _ h₁;
           kind-is = refl;

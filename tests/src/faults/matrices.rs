@@ -95,6 +95,12 @@ pub const FAULTS: &[Fault] = &[
         alter: |o| o.left.chart.flip(3171),
     },
     Fault {
+        name: "marks-around-the-chart",
+        what: "the bytes before and after the longest chart, where 10 rounds and more are done",
+        when: |o| o.answers(Marks) && o.of_longest() && o.rounds() >= 10,
+        alter: |o| o.left.chart.flip_around(),
+    },
+    Fault {
         name: "simulation-later-byte",
         what: "byte 4,999 beyond the matrix, where the buffer is at least 5,000 too long",
         when: |o| o.answers(Simulation) && o.spare() >= 5_000,

@@ -86,4 +86,10 @@ impl Room {
         let end = MARGIN + self.len();
         self.bytes[end] ^= 1;
     }
+
+    /// Changes the bytes before and after the lent part.
+    fn flip_around(&mut self) {
+        self.bytes[MARGIN - 1] ^= 1;
+        self.flip_after();
+    }
 }

@@ -1,7 +1,7 @@
 //! Faults of refusals.
 
 use super::Fault;
-use crate::archive::Question::{Marks, ShortForm};
+use crate::archive::Question::{Marks, Property, ShortForm};
 use crate::outcome::Outcome;
 
 const ONE_PLACE: u64 = 1 << 16;
@@ -98,6 +98,12 @@ pub const FAULTS: &[Fault] = &[
         what: "a lent number written where the last action byte is refused with 12",
         when: |o| o.refuses(12) && o.place() == 402,
         alter: |o| o.left.numbers[0] ^= 1,
+    },
+    Fault {
+        name: "second-and-third-number",
+        what: "the second and the third lent number, written where a property is refused with 11",
+        when: |o| o.left.question == Property && o.refuses(11),
+        alter: |o| o.left.numbers[1..].iter_mut().for_each(|number| *number ^= 1),
     },
     Fault {
         name: "number-on-7",

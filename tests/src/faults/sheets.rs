@@ -2,6 +2,7 @@
 
 use super::Fault;
 use crate::archive::Question::{Property, ShortForm};
+use crate::archive::MARGIN;
 use crate::outcome::Outcome;
 
 /// A property of 200 nodes on a longest chart.
@@ -86,6 +87,12 @@ pub const FAULTS: &[Fault] = &[
         what: "the last byte of a sheet of 200 nodes, which is lent to be read, after 50 rounds and more",
         when: |o| largest(o) && o.rounds() >= 50,
         alter: |o| o.left.sheet.flip(o.left.sheet.len() - 1),
+    },
+    Fault {
+        name: "property-before-the-sheet",
+        what: "the byte before a sheet of 200 nodes, after 30 rounds and more",
+        when: |o| largest(o) && o.rounds() >= 30,
+        alter: |o| o.left.sheet.bytes[MARGIN - 1] ^= 1,
     },
     Fault {
         name: "property-high-code",
