@@ -8,24 +8,20 @@ use Rattle.settle.specs.Test.{both, either, implies, anyOf, allOf, some, each}
 use Rattle.settle.specs.Finite.{pairs}
 use Rattle.settle.specs.Chain.{full, chain, Settled, Rounds}
 use Rattle.settle.proofs.Chain.{rounds-unique}
-use Rattle.chart.specs.Chart.{Step}
-use Rattle.chart.specs.Reading.{bytesAt, stepsAt, chartIn}
+use Rattle.chart.specs.Reading.{bytesAt, stepsAt}
 use Rattle.sheet.specs.Meaning.{leaves}
 use Rattle.nearness.specs.Relation.{matched, bisimulationRound, Near}
 use Rattle.nearness.specs.Bisimulation.{Bisimilar}
 use Rattle.nearness.specs.Mark.{Mark}
 use Rattle.nearness.proofs.Mark.{mark-unique}
 use Rattle.starred.specs.Boards.{chartE, starred, MarksAre, Holds}
-use Rattle.starred.proofs.Boards.{starred-boards-hold, of-chart}
+use Rattle.starred.proofs.Boards.{starred-boards-hold, of-chart, shapeE, read-E}
 use Rattle.relation.specs.declared.Matrix.{Matrix}
 use Rattle.marks.specs.Promise.{MarksOf, MarksPromise}
 use Rattle.marks.proofs.Promise.{always-answered}
 use Rattle.idle.specs.Matrix.{Build, Meets, NotIdle}
 use Rattle.idle.proofs.AtRest.{any-simulation, no-rounds}
-use Rattle.idle.proofs.Matrix.{Shows, shapeE, read-E, not-idle}
-
-abbrev stepsE : List Step
-stepsE = chartIn chartE shapeE .steps
+use Rattle.idle.proofs.Matrix.{Shows, stepsE, not-idle}
 
 board : Mark stepsE 0 1 2 × Rounds (pairs 6) (Near stepsE) 2
 unfolding starred Holds chartE bytesAt

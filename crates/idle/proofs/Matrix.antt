@@ -7,11 +7,13 @@ use mathlib.Core.List.{List, [], _∷_}
 use native.Mathlib.Omega.{arith}
 use lib.ListN.{length}
 use Rattle.settle.specs.Test.{pick, both, allOf}
+use Rattle.chart.specs.Chart.{Step}
 use Rattle.chart.specs.Layout.{Bytes}
 use Rattle.chart.specs.Reading.{readChart, readActions, readTransitions, judgeCodes, judgeTriples, stepsAt, chartIn}
 use Rattle.chart.specs.declared.Shape.{Shape}
 use Rattle.chart.specs.declared.ChartRead.the-variants as Read
 use Rattle.starred.specs.Boards.{chartE}
+use Rattle.starred.proofs.Boards.{shapeE, read-E}
 use Rattle.relation.specs.Promise.{byteAt, Saying, Relations, MatrixPromise, AlwaysAnswered}
 use Rattle.relation.specs.declared.Matrix.{Matrix}
 use Rattle.relation.specs.declared.MatrixAnswer.{MatrixAnswer}
@@ -20,7 +22,7 @@ use Rattle.idle.specs.Slice.{Slice}
 use Rattle.idle.specs.Matrix.{Build, Meets, RefusesEverything, SameAlways, LeavesUnwritten, CopiesFirstRound, InventsRounds, NotIdle}
 use Rattle.idle.proofs.Slice.{are-bytes, e, lent}
 
--- ---- the two charts
+-- ---- the charts
 
 chartAtRest : List ℕ
 chartAtRest = 6 ∷ 1 ∷ 2 ∷ 3 ∷ 4 ∷ 5 ∷ 6 ∷ 3 ∷ 10 ∷ 20 ∷ 30 ∷ 0 ∷ 0 ∷ []
@@ -32,19 +34,15 @@ bytes-at-rest = are-bytes chartAtRest refl
 abbrev atRest : Slice
 atRest = (chartAtRest, bytes-at-rest)
 
-abbrev pub shapeE : Shape
-shapeE = record { n = 6; m = 3; t = 7 }
-
 abbrev shapeAtRest : Shape
 shapeAtRest = record { n = 6; m = 3; t = 0 }
-
-pub read-E : readChart chartE ≡ Read.Chart shapeE
-unfolding chartE readChart readActions readTransitions judgeCodes judgeTriples
-read-E = refl
 
 read-at-rest : readChart chartAtRest ≡ Read.Chart shapeAtRest
 unfolding chartAtRest readChart readActions readTransitions judgeCodes judgeTriples
 read-at-rest = refl
+
+abbrev pub stepsE : List Step
+stepsE = chartIn chartE shapeE .steps
 
 -- ---- what an accepted chart is answered
 
@@ -63,9 +61,9 @@ pub record Shows (given : Matrix) (bytes : List ℕ) (byte rounds : ℕ) : Type 
   pub rounds-are : given .rounds ≡ rounds
 
 module _ {Says : Saying} {R : Relations} (inside byte : ℕ) (always : AlwaysAnswered Says R)
-    (struck : (bytes : List ℕ) (given : Matrix) → Says 6 3 (chartIn chartE shapeE .steps) bytes given → Shows given bytes byte 2)
+    (struck : (bytes : List ℕ) (given : Matrix) → Says 6 3 stepsE bytes given → Shows given bytes byte 2)
     (kept : (bytes : List ℕ) (given : Matrix) → Says 6 3 [] bytes given → Shows given bytes inside 0)
-    (first : R (chartIn chartE shapeE .steps) 1 (0, 1) ≡ true)
+    (first : R stepsE 1 (0, 1) ≡ true)
     (apart : inside ≡ byte → ⊥) (small : byte ≤ 2)
     (b : Build) (meets : Meets (MatrixPromise Says R) b) where
   on-E : (given : Matrix) × (b e lent .0 ≡ Given given) × Shows given (b e lent .1) byte 2

@@ -12,16 +12,14 @@ use Rattle.settle.proofs.Chain.{rounds-unique}
 use Rattle.refusal.specs.declared.Refusal.{Refusal}
 use Rattle.chart.specs.Chart.{Chart, actions}
 use Rattle.chart.specs.Layout.{Bytes}
-use Rattle.chart.specs.Reading.{readChart, readActions, readTransitions, judgeCodes, judgeTriples, bytesAt, stepsAt, chartIn}
-use Rattle.chart.specs.declared.Shape.{Shape}
-use Rattle.chart.specs.declared.ChartRead.the-variants as Read
+use Rattle.chart.specs.Reading.{bytesAt, stepsAt, chartIn}
 use Rattle.sheet.specs.Formula.{Formula, only, variable, bottom, or, diamond, box}
 use Rattle.sheet.specs.Meaning.{leaves, someStep, everyStep, someLabel, everyLabel, holds}
 use Rattle.sheet.specs.Reading.{sheet, readSheet, readNodes, parse, nodeAt}
 use Rattle.sheet.specs.Solution.{applications}
 use Rattle.words.specs.Words.{member}
 use Rattle.starred.specs.Boards.{chartL, sheetOr, starred, SatisfiesAre, Holds}
-use Rattle.starred.proofs.Boards.{starred-boards-hold, of-chart}
+use Rattle.starred.proofs.Boards.{starred-boards-hold, of-chart, shapeL, read-L}
 use Rattle.property.specs.Promise.{Solution, PropertyPromise}
 use Rattle.property.specs.declared.Solved.{Solved}
 use Rattle.property.specs.declared.PropertyAnswer.{PropertyAnswer}
@@ -33,18 +31,11 @@ use Rattle.idle.proofs.Slice.{are-bytes, l}
 
 -- ---- the chart and the two sheets
 
-abbrev shapeL : Shape
-shapeL = record { n = 3; m = 1; t = 3 }
-
 abbrev c : Chart
 c = chartIn chartL shapeL
 
 abbrev f : Formula
 f = or (box (only 0) bottom) (diamond (only 0) variable)
-
-read-L : readChart chartL ≡ Read.Chart shapeL
-unfolding chartL readChart readActions readTransitions judgeCodes judgeTriples
-read-L = refl
 
 read-least : readSheet (sheetOr 1) 1 ≡ sheet 1 5 f
 unfolding sheetOr readSheet readNodes parse nodeAt

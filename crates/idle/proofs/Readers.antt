@@ -18,9 +18,9 @@ use Rattle.sheet.specs.declared.SheetRead.{SheetRead}
 use Rattle.sheet.specs.declared.SheetRead.the-variants as Sheet
 use Rattle.sheet.proofs.Accepted.{layout-read}
 use Rattle.starred.specs.Boards.{chartE, sheetE}
+use Rattle.starred.proofs.Boards.{shapeE, read-E}
 use Rattle.idle.specs.Slice.{Slice}
 use Rattle.idle.proofs.Slice.{are-bytes, bytes-E, e}
-use Rattle.idle.proofs.Matrix.{shapeE, read-E}
 
 pub chart-reader-not-idle : (read : Slice → ChartRead) → ((s : Slice) → Charts.AcceptedExactly (s .0) (read s)) → ((s : Slice) → (r : Refusal) × (read s ≡ Chart.Refused r)) → ⊥
 chart-reader-not-idle read exactly refuses =

@@ -8,22 +8,19 @@ use Rattle.settle.specs.Test.{both, either, implies, neg, same, anyOf, allOf, s
 use Rattle.settle.specs.Finite.{below, product, pairs}
 use Rattle.settle.specs.Chain.{full, chain, Settled, Rounds, settled, stops}
 use Rattle.settle.proofs.Chain.{rounds-unique, stops-e}
-use Rattle.chart.specs.Chart.{Chart, Step}
+use Rattle.chart.specs.Chart.{Chart}
 use Rattle.chart.specs.Reading.{stepsAt, chartIn}
 use Rattle.sheet.specs.Meaning.{leaves}
 use Rattle.nearness.specs.Relation.{matched, simulationRound, Simulating}
 use Rattle.nearness.specs.Bisimulation.{Simulates}
 use Rattle.starred.specs.Boards.{chartE, starred, Truth, SimulationsAre, Holds}
-use Rattle.starred.proofs.Boards.{starred-boards-hold, of-chart}
+use Rattle.starred.proofs.Boards.{starred-boards-hold, of-chart, shapeE, read-E}
 use Rattle.relation.specs.declared.Matrix.{Matrix}
 use Rattle.simulation.specs.Promise.{SimulationOf, SimulationPromise}
 use Rattle.simulation.proofs.Promise.{always-answered}
 use Rattle.idle.specs.Matrix.{Build, Meets, NotIdle}
 use Rattle.idle.proofs.AtRest.{any-simulation, no-rounds}
-use Rattle.idle.proofs.Matrix.{Shows, shapeE, read-E, not-idle}
-
-abbrev stepsE : List Step
-stepsE = chartIn chartE shapeE .steps
+use Rattle.idle.proofs.Matrix.{Shows, stepsE, not-idle}
 
 second : (x y : (ℕ × ℕ) × Bool) (rest : List ((ℕ × ℕ) × Bool)) (c : Chart) → SimulationsAre (x ∷ y ∷ rest) c → Truth (y .1) (Simulates (c .steps) (y .0 .0) (y .0 .1))
 unfolding SimulationsAre

@@ -4,12 +4,10 @@ use mathlib.Core.Path.{_≡_, refl, sym, subst}
 use mathlib.Core.List.{List, [], _∷_, _++_, List·Memᴰ·head as here, List·Memᴰ·tail as there}
 use mathlib.Core.Logic.{_↔_}
 use Rattle.refusal.specs.Refusal.{chartRefusal}
-use Rattle.chart.specs.Chart.{Chart, states}
+use Rattle.chart.specs.Chart.{states}
 use Rattle.chart.specs.Reading.{readChart, readActions, readTransitions, judgeCodes, judgeTriples, bytesAt, chartIn}
-use Rattle.chart.specs.declared.Shape.{Shape}
-use Rattle.chart.specs.declared.ChartRead.the-variants as Read
 use Rattle.starred.specs.Boards.{chartL, starred, MarksAre, GreatestRounds, Holds}
-use Rattle.starred.proofs.Boards.{starred-boards-hold, of-chart}
+use Rattle.starred.proofs.Boards.{starred-boards-hold, of-chart, shapeL, read-L}
 use Rattle.text.specs.Text.{digits, decimal, line}
 use Rattle.relation.specs.Promise.{byteAt}
 use Rattle.report.specs.Promise.{ReportOf}
@@ -31,13 +29,6 @@ linesL =
 pub printed-of-L : chartText 3 2 (byteAt 3 marksL) ≡ linesL
 unfolding chartText rowsText rowText pairText line decimal digits
 printed-of-L = refl
-
-abbrev shapeL : Shape
-shapeL = record { n = 3; m = 1; t = 3 }
-
-read-L : readChart chartL ≡ Read.Chart shapeL
-unfolding chartL readChart readActions readTransitions judgeCodes judgeTriples
-read-L = refl
 
 board-L : MarksAre marksL 2 (chartIn chartL shapeL)
 unfolding starred Holds

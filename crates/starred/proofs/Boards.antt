@@ -168,3 +168,18 @@ starred-boards-hold b m = good-holds b (all-e good all-good m)
 -- what a board says of a chart, of the counts that are read
 pub of-chart : (Says : Chart → Type 0) (bytes : List ℕ) (sh : Shape) → readChart bytes ≡ Read.Chart sh → InChart bytes Says → Says (chartIn bytes sh)
 of-chart Says bytes sh read b = subst (λ (x : Shape). Says (chartIn bytes x)) (same-shape (b .1) read) (b .2)
+
+-- the counts of charts E and L, as they are read
+abbrev pub shapeE : Shape
+shapeE = record { n = 6; m = 3; t = 7 }
+
+abbrev pub shapeL : Shape
+shapeL = record { n = 3; m = 1; t = 3 }
+
+pub read-E : readChart chartE ≡ Read.Chart shapeE
+unfolding chartE readChart readActions readTransitions judgeCodes judgeTriples
+read-E = refl
+
+pub read-L : readChart chartL ≡ Read.Chart shapeL
+unfolding chartL readChart readActions readTransitions judgeCodes judgeTriples
+read-L = refl
