@@ -1,11 +1,12 @@
-// A refusal of document 01: the input at fault, the number and the place.
+// A refusal of documents 01 and 02: the input at fault, the number and the place.
 ghost use mathlib.Core.Path.{_≡_};
-ghost use Rattle.refusal.specs.Refusal.{inputNumber, chartRefusal, sheetRefusal, lentRefusal};
+ghost use Rattle.refusal.specs.Refusal.{inputNumber, chartRefusal, sheetRefusal, lentRefusal, ofSecond};
 
 pub enum Input {
     Chart,
     Sheet,
     BufferOrName,
+    SecondChart,
 }
 
 pub struct Refusal {
@@ -22,6 +23,7 @@ pub fn input_number(input: Input) -> u8
         Input::Chart => 0,
         Input::Sheet => 1,
         Input::BufferOrName => 2,
+        Input::SecondChart => 3,
     }
 }
 
@@ -47,7 +49,7 @@ pub fn of_sheet(number: u8, place: usize) -> Refusal
     }
 }
 
-// The refusal of the lent buffer or of a name: its place is 0.
+// The refusal of the lent buffer, of a name, or of two charts taken together: its place is 0.
 pub fn of_lent(number: u8) -> Refusal
     ensures { λ r. ⌜ r ≡ lentRefusal number ⌝ }
 {
@@ -55,5 +57,16 @@ pub fn of_lent(number: u8) -> Refusal
         input: Input::BufferOrName,
         number,
         place: 0,
+    }
+}
+
+// A chart's refusal, given of the second chart of two: the number and the place stay.
+pub fn of_second(refusal: Refusal) -> Refusal
+    ensures { λ r. ⌜ r ≡ ofSecond refusal ⌝ }
+{
+    Refusal {
+        input: Input::SecondChart,
+        number: refusal.number,
+        place: refusal.place,
     }
 }
