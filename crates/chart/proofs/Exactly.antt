@@ -91,7 +91,7 @@ record Written (s : List ℕ) (c : Chart) : Type 0 where
   high-at : getD s (3 + states c + actions c) 0 ≡ transitions c / 256
   steps-at : stepsAt s (4 + states c + actions c) (transitions c) ≡ c .steps
 
-stepBytes-length : (us : List Step) → length (stepBytes us) ≡ 3 * length us
+pub stepBytes-length : (us : List Step) → length (stepBytes us) ≡ 3 * length us
 unfolding stepBytes
 stepBytes-length [] = refl
 stepBytes-length (u ∷ us) = omega (arith, stepBytes-length us)
@@ -239,7 +239,7 @@ accepted-exactly s B c = (
   λ f. encoded-reads s c (f .0) (f .1),
 )
 
-known-bytes : (s : List ℕ) → ((i : ℕ) → getD s i 0 < 256) → Bytes s
+pub known-bytes : (s : List ℕ) → ((i : ℕ) → getD s i 0 < 256) → Bytes s
 known-bytes [] h x m = absurd (List·Memᴰ·not-nil m)
 known-bytes (y ∷ s) h x m = go (List·Memᴰ·cases-cons m) (known-bytes s (λ i. h (suc i)) x)
   where

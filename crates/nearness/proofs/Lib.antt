@@ -3,3 +3,4 @@ pub mod Formulas
 pub mod Mark
 pub mod Bisimulation
 pub mod Rounds
+pub mod Carried

@@ -12,7 +12,7 @@ use Rattle.chart.specs.Chart.{Step}
 use Rattle.sheet.specs.Formula.{Formula, depth}
 use Rattle.nearness.specs.Relation.{Near}
 use Rattle.nearness.specs.Mark.{TellsApart, SmallestDepth, Mark}
-use Rattle.nearness.proofs.Formulas.{near-iff, near-down, tells-apart}
+use Rattle.nearness.proofs.Formulas.{near-iff, near-sym, near-down, tells-apart}
 
 module _ (steps : List Step) (p q : ℕ) where
   pub mark-unique : (d e : ℕ) → Mark steps p q d → Mark steps p q e → d ≡ e
@@ -26,6 +26,12 @@ module _ (steps : List Step) (p q : ℕ) where
   pub mark-drop : (d : ℕ) → So (Near steps d (p, q)) → (So (Near steps (suc d) (p, q)) → ⊥) → Mark steps p q (suc d)
   unfolding Mark
   mark-drop d h f = (f, λ j l g. g (near-down steps j d p q (omega arith) h))
+
+-- in either order
+pub mark-turned : (steps : List Step) (p q k : ℕ) → Mark steps p q k → Mark steps q p k
+unfolding Mark
+mark-turned steps p q zero m = λ j. near-sym steps j p q (m j)
+mark-turned steps p q (suc k) m = (λ t. m .0 (near-sym steps (suc k) q p t), λ j h o. m .1 j h (λ t. o (near-sym steps j p q t)))
 
 module _ (m : ℕ) (steps : List Step) (p q : ℕ) where
   pub mark-zero : Mark steps p q 0 ↔ ((f : Formula) → TellsApart m steps f p q → ⊥)

@@ -7,7 +7,7 @@ use native.Mathlib.Omega.{arith}
 use native.Mathlib.Numerals.{add-one}
 use native.Mathlib.Decide.{decLt}
 use lib.ListN.{length, take, drop, set, length-append, length-drop}
-use lib.Seq.{length-take-le, take-at, drop-at, drop-drop, append-snoc, set-split, paste-zero}
+use lib.Seq.{length-take-le, take-at, drop-at, drop-drop, append-snoc, set-split, set-append-left, take-set-lt, drop-set-lt, paste-zero}
 use lib.Dec.{leb}
 use mathlib.Core.Bool.{true, false}
 use borrow.Author.Tests.{lt-ltb, le-ltb, le-leb}
@@ -112,6 +112,23 @@ pub placed-more : (b : List ℕ) (at : ℕ) (s : List ℕ) (x : ℕ) → at + le
 placed-more b at s x h =
     let room : at + length s ≤ length b = omega arith in
     placed-one (placed b at s) (at + length s) x (omega (arith, length-placed b at s room)) ∙ placed-append b at s room (x ∷ [])
+
+-- a byte that is stored before a text
+placed-later : (b : List ℕ) (at : ℕ) (s : List ℕ) (i x : ℕ) → i < at → at ≤ length b → set (placed b at s) i x ≡ placed (set b i x) at s
+unfolding placed
+placed-later b at s i x h room =
+    let front : length (take at b) ≡ at = length-take-le at b room in
+    let rest : List ℕ = drop (at + length s) b in
+    set-append-left (take at b ++ s) rest i x (omega (arith, length-append (take at b) s))
+    ∙ ap (λ (l : List ℕ). l ++ rest) (set-append-left (take at b) s i x (omega arith))
+    ∙ rw (take-set-lt at b i x h, drop-set-lt (at + length s) b i x (omega arith))
+
+-- a text and the byte that is stored just before it
+pub placed-before : (b : List ℕ) (at : ℕ) (s : List ℕ) (x : ℕ) → at + 1 + length s ≤ length b → set (placed b (at + 1) s) at x ≡ placed b at (x ∷ s)
+placed-before b at s x h =
+    placed-later b (at + 1) s at x (omega arith) (omega arith)
+    ∙ ap (λ (l : List ℕ). placed l (at + 1) s) (placed-one b at x (omega arith))
+    ∙ placed-append b at (x ∷ []) (omega arith) s
 
 -- the text was put at the place, r is the place after and b′ the buffer then
 abbrev pub Put : List ℕ → ℕ → List ℕ → ℕ → List ℕ → Type 0
