@@ -1,0 +1,10 @@
+pub mod Rising
+pub mod Chosen
+pub mod Codes
+pub mod Moved
+pub mod Steps
+pub mod Formed
+pub mod Within
+pub mod Partner
+pub mod Swapped
+pub mod Reading

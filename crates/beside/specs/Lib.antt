@@ -1,0 +1,4 @@
+pub mod Partner
+pub mod Chosen
+pub mod Beside
+pub mod Reading

@@ -1,0 +1,1 @@
+// Two charts side by side, and partners: definitions and their laws alone.
