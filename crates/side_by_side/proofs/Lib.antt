@@ -1,0 +1,5 @@
+pub mod Bytes
+pub mod Table
+pub mod Written
+pub mod Answered
+pub mod Promise
