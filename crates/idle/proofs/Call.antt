@@ -19,20 +19,25 @@ use Rattle.property.specs.declared.PropertyAnswer.the-variants as Property
 use Rattle.lent.specs.declared.LentAnswer.{LentAnswer}
 use Rattle.lent.specs.declared.LentAnswer.the-variants as Form
 use Rattle.short_form.specs.Promise.{ShortFormPromise}
+use Rattle.compare.specs.Promise.{ComparePromise}
+use Rattle.compare.specs.declared.CompareAnswer.{CompareAnswer}
+use Rattle.compare.specs.declared.CompareAnswer.the-variants as Comparing
 use Rattle.viewer.specs.Packing.{packed}
-use Rattle.viewer.specs.Shown.{lent, matrixCode, matrixStates, matrixRounds, propertyCode, wordLeft, countLeft, roundsLeft, formCode, writtenLeft, MatrixShown, MarksShown, SimulationShown, PropertyShown, ShortFormShown}
+use Rattle.viewer.specs.Shown.{lent, matrixCode, matrixStates, matrixRounds, propertyCode, wordLeft, countLeft, roundsLeft, formCode, writtenLeft, compareCode, compareWritten, compareRounds, MatrixShown, MarksShown, SimulationShown, PropertyShown, ShortFormShown, CompareShown}
 use Rattle.viewer.proofs.Packing.{Packable, packed-some, packing}
-use Rattle.viewer.proofs.Packable.{matrix-packable, property-packable, short-form-packable}
+use Rattle.viewer.proofs.Packable.{matrix-packable, property-packable, short-form-packable, compare-packable}
 use Rattle.idle.specs.Slice.{Slice}
 use Rattle.idle.specs.Matrix as Matrix
 use Rattle.idle.specs.Property as Properties
 use Rattle.idle.specs.Written as Written
 use Rattle.idle.specs.ShortForm.{Asked}
-use Rattle.idle.specs.Call.{inputOf, refusalOf, MatrixLeft, matrixRead, matrixBuild, MeetsMatrix, PropertyLeft, propertyRead, propertyBuild, MeetsProperty, FormLeft, formRead, formBuild, MeetsForm}
+use Rattle.idle.specs.Compare as Compare
+use Rattle.idle.specs.Call.{inputOf, refusalOf, MatrixLeft, matrixRead, matrixBuild, MeetsMatrix, PropertyLeft, propertyRead, propertyBuild, MeetsProperty, FormLeft, formRead, formBuild, MeetsForm, CompareLeft, compareRead, compareBuild, MeetsCompare}
 use Rattle.idle.proofs.Marks.{marks-not-idle}
 use Rattle.idle.proofs.Simulation.{simulation-not-idle}
 use Rattle.idle.proofs.Property.{property-not-idle}
 use Rattle.idle.proofs.ShortForm.{short-form-not-idle}
+use Rattle.idle.proofs.Compare.{compare-not-idle}
 
 -- ---- a refusal is read back from its code
 
@@ -40,6 +45,7 @@ input-back : (i : Input) → inputOf (inputNumber i) ≡ i
 input-back Input.Chart = refl
 input-back Input.Sheet = refl
 input-back Input.BufferOrName = refl
+input-back Input.SecondChart = refl
 
 refusal-back : (r : Refusal) → Packable r → refusalOf (packed r) ≡ r
 refusal-back r fits = let p = packing r fits in same (ap inputOf (p .input-is) ∙ input-back (r .input)) (p .number-is) (p .place-is)
@@ -104,3 +110,18 @@ form-promised chart sheet name old written x s = go (s .answer) (s .promised) (s
 pub short-form-call-not-idle : (written : ℕ) (call : Asked → Slice → FormLeft) → MeetsForm written call → Written.NotIdle (formBuild call)
 short-form-call-not-idle written call s =
     short-form-not-idle (formBuild call) (λ i old. form-promised (i .chart .0) (i .sheet .0) (i .name) (old .0) written (call i old) (s i old))
+
+-- ---- compare
+
+compare-promised : (first second old : List ℕ) (written rounds : ℕ) (x : CompareLeft)
+    → CompareShown first second old (x .bytes) (lent written (x .written)) (lent rounds (x .rounds)) (x .code) → ComparePromise first second old (x .bytes) (compareRead x)
+compare-promised first second old written rounds x s = go (s .answer) (s .promised) (s .code-is) (s .written-is) (s .rounds-is)
+  where
+    go : (a : CompareAnswer) → ComparePromise first second old (x .bytes) a → x .code ≡ compareCode a → x .written ≡ compareWritten written a → x .rounds ≡ compareRounds rounds a
+        → ComparePromise first second old (x .bytes) (compareRead x)
+    go (Comparing.Compared a) p c e f = read-given (ComparePromise first second old (x .bytes)) Comparing.Refused _ (x .code) c (rw (e, f) p)
+    go (Comparing.Refused r) p c e f = read-refused (ComparePromise first second old (x .bytes)) Comparing.Refused _ (x .code) r (compare-packable first second old (x .bytes) r p) c p
+
+pub compare-call-not-idle : (written rounds : ℕ) (call : Slice → Slice → Slice → CompareLeft) → MeetsCompare written rounds call → Compare.NotIdle (compareBuild call)
+compare-call-not-idle written rounds call s =
+    compare-not-idle (compareBuild call) (λ first second old. compare-promised (first .0) (second .0) (old .0) written rounds (call first second old) (s first second old))

@@ -6,6 +6,7 @@ pub mod Simulation
 pub mod Property
 pub mod Written
 pub mod ShortForm
+pub mod Compare
 pub mod Report
 pub mod Readers
 pub mod Call

@@ -11,7 +11,7 @@ use Rattle.lent.proofs.Lent.{not-written, written-fills}
 use Rattle.idle.specs.Written.{Build, Meets, RefusesEverything, SameAlways, LeavesUnwritten, NotIdle}
 use Rattle.idle.proofs.Slice.{lent}
 
-filled : (bytes new : List ℕ) (answer : LentAnswer) → length bytes ≤ 40 → LentPromise (writes bytes) (lent .0) new answer → (answer ≡ Written (length bytes)) × (take (length bytes) new ≡ bytes)
+pub filled : (bytes new : List ℕ) (answer : LentAnswer) → length bytes ≤ 40 → LentPromise (writes bytes) (lent .0) new answer → (answer ≡ Written (length bytes)) × (take (length bytes) new ≡ bytes)
 filled bytes new answer room p =
     let a : answer ≡ Written (length bytes) = rw (le-ltb 40 (length bytes) room) at (p .answered) in
     let f = written-fills (writes bytes) (lent .0) new (length bytes) (subst (LentPromise (writes bytes) (lent .0) new) a p) in

@@ -13,16 +13,19 @@ use Rattle.property.specs.declared.PropertyAnswer.{PropertyAnswer}
 use Rattle.property.specs.declared.PropertyAnswer.the-variants as Property
 use Rattle.lent.specs.declared.LentAnswer.{LentAnswer}
 use Rattle.lent.specs.declared.LentAnswer.the-variants.{Written, Refused}
-use Rattle.viewer.specs.Shown.{Lent, lent, PropertyShown, ShortFormShown}
+use Rattle.compare.specs.declared.CompareAnswer.{CompareAnswer}
+use Rattle.compare.specs.declared.CompareAnswer.the-variants as Comparing
+use Rattle.viewer.specs.Shown.{Lent, lent, PropertyShown, ShortFormShown, CompareShown}
 use Rattle.idle.specs.Slice.{Slice}
 use Rattle.idle.specs.Matrix as Matrix
 use Rattle.idle.specs.Property as Properties
 use Rattle.idle.specs.Written as Written
 use Rattle.idle.specs.ShortForm.{Asked}
+use Rattle.idle.specs.Compare as Compare
 
--- 0 chart, 1 sheet, 2 buffer or name
+-- 0 chart, 1 sheet, 2 buffer or name, 3 second chart
 abbrev pub inputOf : ℕ → Input
-inputOf number = pick (eqb number 0) Input.Chart (pick (eqb number 1) Input.Sheet Input.BufferOrName)
+inputOf number = pick (eqb number 0) Input.Chart (pick (eqb number 1) Input.Sheet (pick (eqb number 2) Input.BufferOrName Input.SecondChart))
 
 abbrev pub refusalOf : ℕ → Refusal
 refusalOf code = record { input = inputOf (code / 256 % 256); number = code % 256; place = code / 65536 % 4294967296 }
@@ -80,3 +83,21 @@ formBuild call i old = (formRead (call i old), call i old .bytes)
 abbrev pub MeetsForm : ℕ → (Asked → Slice → FormLeft) → Type 0
 MeetsForm written call = (i : Asked) (old : Slice) → let x = call i old in
     ShortFormShown (i .chart .0) (i .sheet .0) (i .name) (old .0) (x .bytes) (lent written (x .written)) (x .code)
+
+-- ---- compare
+
+pub record CompareLeft : Type 0 where
+  pub code : ℕ
+  pub bytes : List ℕ
+  pub written : ℕ
+  pub rounds : ℕ
+
+abbrev pub compareRead : CompareLeft → CompareAnswer
+compareRead x = pick (eqb (x .code) 0) (Comparing.Compared (record { written = x .written; rounds = x .rounds })) (Comparing.Refused (refusalOf (x .code)))
+
+abbrev pub compareBuild : (Slice → Slice → Slice → CompareLeft) → Compare.Build
+compareBuild call first second old = (compareRead (call first second old), call first second old .bytes)
+
+abbrev pub MeetsCompare : ℕ → ℕ → (Slice → Slice → Slice → CompareLeft) → Type 0
+MeetsCompare written rounds call = (first second old : Slice) → let x = call first second old in
+    CompareShown (first .0) (second .0) (old .0) (x .bytes) (lent written (x .written)) (lent rounds (x .rounds)) (x .code)

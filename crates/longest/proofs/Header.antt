@@ -7,12 +7,15 @@ use Rattle.sheet.specs.Layout as Sheet
 use Rattle.sheet.proofs.Accepted.{accepted-short as sheet-short}
 use Rattle.relation.proofs.Cells.{cells-few}
 use Rattle.short_form.proofs.Room.{room-enough}
+use Rattle.compare.specs.Comparison.{longestComparison}
+use Rattle.compare.proofs.Room.{comparison-room}
 use Rattle.longest.specs.Header.{Header}
-use Rattle.longest.specs.Longest.{fullChart, nested}
+use Rattle.longest.specs.Longest.{fullChart, nested, loopChart, restChart}
 use Rattle.longest.proofs.Bytes.{chart-bytes, sheet-bytes}
 use Rattle.longest.proofs.Longest.{full-formed, full-accepted, full-length, nested-formed, nested-accepted, nested-length}
+use Rattle.longest.proofs.Comparison.{loop-formed, rest-formed, comparison-reached}
 
-pub header-constants : Header 64 longestChart Sheet.longestSheet
+pub header-constants : Header 64 longestChart Sheet.longestSheet longestComparison
 header-constants = record {
   matrix-room = λ s sh e. cells-few (sh .n) (accepted s sh e .states-few);
   charts-short = chart-short;
@@ -20,4 +23,6 @@ header-constants = record {
   sheets-short = sheet-short;
   sheet-reaches = λ m few. (Sheet.encode 0 (nested 199), sheet-bytes m few 0 (nested 199) (nested-formed m), 0, nodes (nested 199), nested 199, nested-accepted m few, nested-length);
   room-enough = room-enough;
+  comparison-room = comparison-room;
+  comparison-reaches = (encode loopChart, encode restChart, chart-bytes loopChart loop-formed, chart-bytes restChart rest-formed, comparison-reached);
 }

@@ -1,3 +1,4 @@
 pub mod Bytes
 pub mod Longest
+pub mod Comparison
 pub mod Header

@@ -21,12 +21,12 @@ use Rattle.longest.specs.Longest.{counted, stepOf, fullChart, nested}
 -- ---- items that are counted
 
 module _ {A : Type 0} (item : ℕ → A) where
-  counted-length : (i k : ℕ) → length (counted item i k) ≡ k
+  pub counted-length : (i k : ℕ) → length (counted item i k) ≡ k
   unfolding counted
   counted-length i zero = refl
   counted-length i (suc k) = ap suc (counted-length (suc i) k)
 
-  counted-member : {x : A} (i k : ℕ) → Mem x (counted item i k) → (j : ℕ) × (j < i + k) × (x ≡ item j)
+  pub counted-member : {x : A} (i k : ℕ) → Mem x (counted item i k) → (j : ℕ) × (j < i + k) × (x ≡ item j)
   unfolding counted
   counted-member i zero m = absurd (not-nil m)
   counted-member i (suc k) m = elim (cases-cons m) [

@@ -1,4 +1,5 @@
--- A chart of 64 states, 32 actions and 1,024 transitions, and a formula of 200 nodes, all but the last with an action.
+-- A chart of 64 states, 32 actions and 1,024 transitions; a formula of 200 nodes, all but the last with an action; and two charts of 64 states
+-- together, none of which has a partner.
 use Prim.Native.Nat.{ℕ, zero, suc, _/_, _%_}
 use mathlib.Core.List.{List, [], _∷_}
 use Rattle.chart.specs.Chart.{Step, Chart}
@@ -20,3 +21,13 @@ fullChart = record { modes = counted (λ i. i) 0 64; codes = counted (λ i. i) 0
 unfoldable pub nested : ℕ → Formula
 nested zero = top
 nested (suc k) = diamond every (nested k)
+
+-- one state that steps to itself, and 63 that rest
+abbrev pub loop : Step
+loop = record { source = 0; action = 0; target = 0 }
+
+abbrev pub loopChart : Chart
+loopChart = record { modes = 0 ∷ []; codes = 0 ∷ []; steps = loop ∷ [] }
+
+abbrev pub restChart : Chart
+restChart = record { modes = counted (λ i. i) 0 63; codes = []; steps = [] }

@@ -7,7 +7,8 @@ use Rattle.marks.proofs.Promise.{marks-determined}
 use Rattle.simulation.proofs.Promise.{simulation-determined}
 use Rattle.property.proofs.Promise.{property-determined}
 use Rattle.short_form.proofs.Promise.{short-form-determined}
-use Rattle.viewer.specs.Shown.{lent, matrixCode, matrixStates, matrixRounds, MatrixShown, MarksShown, SimulationShown, propertyCode, wordLeft, countLeft, roundsLeft, PropertyShown, formCode, writtenLeft, ShortFormShown}
+use Rattle.compare.proofs.Determined.{compare-determined}
+use Rattle.viewer.specs.Shown.{lent, matrixCode, matrixStates, matrixRounds, MatrixShown, MarksShown, SimulationShown, propertyCode, wordLeft, countLeft, roundsLeft, PropertyShown, formCode, writtenLeft, ShortFormShown, compareCode, compareWritten, compareRounds, CompareShown}
 
 -- what follows from equal answers
 along : {A : Type 0} (f : A → ℕ) {x y : A} {m n : ℕ} → x ≡ y → m ≡ f x → n ≡ f y → m ≡ n
@@ -46,3 +47,10 @@ pub short-form-shown-determined : (chart sheet : List ℕ) (name : ℕ) (old a b
 short-form-shown-determined chart sheet name old a b w w₁ w₂ c₁ c₂ x y =
     let e = short-form-determined chart sheet name old (x .promised) (y .promised) in
     (e .1, along formCode (e .0) (x .code-is) (y .code-is), along (writtenLeft w) (e .0) (x .written-is) (y .written-is))
+
+pub compare-shown-determined : (first second old a b : List ℕ) (w w₁ w₂ r r₁ r₂ c₁ c₂ : ℕ)
+    → CompareShown first second old a (lent w w₁) (lent r r₁) c₁ → CompareShown first second old b (lent w w₂) (lent r r₂) c₂
+    → (a ≡ b) × (c₁ ≡ c₂) × (w₁ ≡ w₂) × (r₁ ≡ r₂)
+compare-shown-determined first second old a b w w₁ w₂ r r₁ r₂ c₁ c₂ x y =
+    let e = compare-determined first second old a b _ _ (x .promised) (y .promised) in
+    (e .1, along compareCode (e .0) (x .code-is) (y .code-is), along (compareWritten w) (e .0) (x .written-is) (y .written-is), along (compareRounds r) (e .0) (x .rounds-is) (y .rounds-is))

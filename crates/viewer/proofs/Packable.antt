@@ -1,4 +1,4 @@
--- Every refusal that a question promises can be packed: its number is from 1 to 17 and its place not past the longest chart. Assumes nothing.
+-- Every refusal that a question promises can be packed: its number is from 1 to 20 and its place not past the longest chart. Assumes nothing.
 use Prim.Native.Nat.{ℕ, _*_, _≤_, _<_}
 use mathlib.Core.Path.{_≡_, refl, sym, subst⁻¹}
 use mathlib.Core.Logic.{⊎-elim}
@@ -27,12 +27,16 @@ use Rattle.lent.proofs.Lent.{no-bytes, refused-by}
 use Rattle.short_form.specs.Promise.{Form, formOf, formOfSheet, formOfChart, outcomeOf, ShortFormPromise}
 use Rattle.short_form.proofs.Scan.{before-within}
 use Rattle.short_form.proofs.Promise.{form-cases}
+use Rattle.beside.proofs.Reading.{Refusing, of-first, of-second, of-both, two-refused}
+use Rattle.compare.specs.Promise.{ComparePromise}
+use Rattle.compare.specs.declared.CompareAnswer.the-variants as Compare
+use Rattle.compare.proofs.Told.{compare-refused}
 use Rattle.viewer.proofs.Packing.{Packable}
 
 packable-as : {r s : Refusal} → r ≡ s → Packable s → Packable r
 packable-as e h = subst⁻¹ Packable e h
 
-fits : {r : Refusal} → 1 ≤ r .number → r .number ≤ 17 → r .place ≤ 3172 → Packable r
+fits : {r : Refusal} → 1 ≤ r .number → r .number ≤ 20 → r .place ≤ 3172 → Packable r
 fits some few near = record { number-some = some; number-few = few; place-few = near }
 
 chart-packable : (chart : List ℕ) (r : Refusal) → readChart chart ≡ Read.Refused r → Packable r
@@ -41,7 +45,7 @@ chart-packable chart r e = let p = chart-refused chart r e in fits (p .number-so
 sheet-packable : (bytes : List ℕ) (m : ℕ) (r : Refusal) → readSheet bytes m ≡ refused r → Packable r
 sheet-packable bytes m r e = let p = refusal-small bytes m r e in fits (number-some p) (omega (arith, number-few p)) (omega (arith, p .place-small))
 
-lent-packable : (number : ℕ) → 1 ≤ number → number ≤ 17 → Packable (lentRefusal number)
+lent-packable : (number : ℕ) → 1 ≤ number → number ≤ 20 → Packable (lentRefusal number)
 lent-packable number some few = fits some few (omega arith)
 
 -- ---- marks and simulation
@@ -99,3 +103,13 @@ short-form-packable chart bytes name old new r p = ⊎-elim (by-chart (readChart
     by-chart : (x : ChartRead) → readChart chart ≡ x → outcomeOf (formOfChart bytes name x) ≡ refuses r → Packable r
     by-chart (Read.Refused s) d e = packable-as (refuses-is e) (chart-packable chart s d)
     by-chart (Read.Chart sh) d e = by-sheet sh (readSheet bytes (sh .m)) refl e
+
+-- ---- compare
+
+pub compare-packable : (first second old new : List ℕ) (r : Refusal) → ComparePromise first second old new (Compare.Refused r) → Packable r
+compare-packable first second old new r p = ⊎-elim (λ e. by-reading (two-refused first second r e)) (λ e. packable-as e (lent-packable 14 (omega arith) (omega arith))) (compare-refused first second old new r p .0)
+  where
+    by-reading : Refusing first second r → Packable r
+    by-reading (of-first e) = chart-packable first r e
+    by-reading (of-second s e f) = let q = chart-packable second s e in packable-as f (fits (q .number-some) (q .number-few) (q .place-few))
+    by-reading (of-both number some few f) = packable-as f (lent-packable number (omega arith) few)

@@ -8,16 +8,17 @@ use Rattle.refusal.specs.declared.Input.the-variants as Input
 use Rattle.refusal.specs.declared.Refusal.{Refusal}
 use Rattle.viewer.specs.Packing.{packed, Parts}
 
--- a number of document 01, and a place not past the longest chart
+-- a number of documents 01 and 02, and a place not past the longest chart
 pub record Packable (r : Refusal) : Type 0 where
   pub number-some : 1 ≤ r .number
-  pub number-few : r .number ≤ 17
+  pub number-few : r .number ≤ 20
   pub place-few : r .place ≤ 3172
 
-input-few : (i : Input) → inputNumber i ≤ 2
+input-few : (i : Input) → inputNumber i ≤ 3
 input-few Input.Chart = omega arith
 input-few Input.Sheet = omega arith
 input-few Input.BufferOrName = omega arith
+input-few Input.SecondChart = omega arith
 
 module _ (r : Refusal) (fits : Packable r) where
   pub packed-some : packed r ≡ 0 → ⊥

@@ -22,13 +22,17 @@ use Rattle.lent.specs.declared.LentAnswer.the-variants.{Written, Refused}
 use Rattle.lent.proofs.Lent.{not-written}
 use Rattle.short_form.specs.Promise.{ShortFormPromise}
 use Rattle.short_form.proofs.Promise.{short-form-determined}
+use Rattle.compare.specs.Promise.{ComparePromise}
+use Rattle.compare.specs.declared.CompareAnswer.{CompareAnswer}
+use Rattle.compare.specs.declared.CompareAnswer.the-variants as Compare
+use Rattle.compare.proofs.Determined.{not-compared, compare-determined}
 use Rattle.viewer.specs.Packing.{packed, Parts}
-use Rattle.viewer.specs.Shown.{Lent, matrixCode, MarksShown, SimulationShown, propertyCode, PropertyShown, formCode, ShortFormShown}
+use Rattle.viewer.specs.Shown.{Lent, matrixCode, MarksShown, SimulationShown, propertyCode, PropertyShown, formCode, ShortFormShown, compareCode, CompareShown}
 use Rattle.viewer.specs.Told.{Told}
 use Rattle.viewer.proofs.Packing.{Packable, packed-some, packing}
-use Rattle.viewer.proofs.Packable.{matrix-packable, property-packable, short-form-packable}
+use Rattle.viewer.proofs.Packable.{matrix-packable, property-packable, short-form-packable, compare-packable}
 
--- ---- what all four share
+-- ---- what all share
 
 -- an answer and its code: given, and 0; or refused, and the refusal packed
 abbrev Coded : {A G : Type 0} → (G → A) → (Refusal → A) → A → ℕ → Type 0
@@ -92,3 +96,15 @@ pub short-form-told : (chart sheet : List ℕ) (name : ℕ) (old new : List ℕ)
 short-form-told chart sheet name old new written code x =
     told (λ s t p q. short-form-determined chart sheet name old p q .0) (short-form-packable chart sheet name old new) (λ length r e. not-written (sym e))
     (x .answer) (x .promised) (written-or-refused (x .answer) (x .code-is))
+
+-- ---- compare
+
+compared-or-refused : {code : ℕ} (a : CompareAnswer) → code ≡ compareCode a → Coded Compare.Compared Compare.Refused a code
+compared-or-refused (Compare.Compared given) e = inl (given, refl, e)
+compared-or-refused (Compare.Refused r) e = inr (r, refl, e)
+
+pub compare-told : (first second old new : List ℕ) (written rounds : Lent) (code : ℕ) → CompareShown first second old new written rounds code
+    → Told Compare.Compared Compare.Refused (ComparePromise first second old new) code
+compare-told first second old new written rounds code x =
+    told (λ s t p q. compare-determined first second old new new s t p q .0) (compare-packable first second old new) (λ given r e. not-compared (sym e))
+    (x .answer) (x .promised) (compared-or-refused (x .answer) (x .code-is))

@@ -13,6 +13,9 @@ use Rattle.property.specs.declared.PropertyAnswer.the-variants as Property
 use Rattle.lent.specs.declared.LentAnswer.{LentAnswer}
 use Rattle.lent.specs.declared.LentAnswer.the-variants.{Written, Refused}
 use Rattle.short_form.specs.Promise.{ShortFormPromise}
+use Rattle.compare.specs.Promise.{ComparePromise}
+use Rattle.compare.specs.declared.CompareAnswer.{CompareAnswer}
+use Rattle.compare.specs.declared.CompareAnswer.the-variants as Compare
 use Rattle.viewer.specs.Packing.{packed}
 
 -- a lent number before and after a call
@@ -92,3 +95,24 @@ pub record ShortFormShown (chart sheet : List ℕ) (name : ℕ) (old new : List 
   pub promised : ShortFormPromise chart sheet name old new answer
   pub code-is : code ≡ formCode answer
   pub written-is : written .after ≡ writtenLeft (written .before) answer
+
+-- ---- compare
+
+abbrev pub compareCode : CompareAnswer → ℕ
+compareCode (Compare.Compared a) = 0
+compareCode (Compare.Refused r) = packed r
+
+abbrev pub compareWritten : ℕ → CompareAnswer → ℕ
+compareWritten old (Compare.Compared a) = a .written
+compareWritten old (Compare.Refused r) = old
+
+abbrev pub compareRounds : ℕ → CompareAnswer → ℕ
+compareRounds old (Compare.Compared a) = a .rounds
+compareRounds old (Compare.Refused r) = old
+
+pub record CompareShown (first second old new : List ℕ) (written rounds : Lent) (code : ℕ) : Type 0 where
+  pub answer : CompareAnswer
+  pub promised : ComparePromise first second old new answer
+  pub code-is : code ≡ compareCode answer
+  pub written-is : written .after ≡ compareWritten (written .before) answer
+  pub rounds-is : rounds .after ≡ compareRounds (rounds .before) answer

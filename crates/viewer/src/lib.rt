@@ -1,5 +1,6 @@
 // The questions for the C viewer, on byte slices and numbers. Each call answers 0, or the refusal as number | input << 8 | place << 16; the lent
 // numbers and bytes are written only where it answers 0.
+use compare::CompareAnswer;
 use lent::LentAnswer;
 use property::PropertyAnswer;
 use refusal::Refusal;
@@ -7,7 +8,7 @@ use relation::MatrixAnswer;
 ghost use mathlib.Core.Path.{_≡_};
 ghost use Prim.Native.Nat.{_≤_};
 ghost use Rattle.viewer.specs.Packing.{packed};
-ghost use Rattle.viewer.specs.Shown.{lent, MarksShown, PropertyShown, ShortFormShown, SimulationShown};
+ghost use Rattle.viewer.specs.Shown.{lent, CompareShown, MarksShown, PropertyShown, ShortFormShown, SimulationShown};
 
 // The refusal in one number. Places are small: at most 3,172 in a chart and 403 in a sheet.
 fn pack(refusal: Refusal) -> u64
@@ -103,5 +104,27 @@ pub extern "C" fn rebatelion_short_form(
             0
         }
         LentAnswer::Refused(r) => pack(r),
+    }
+}
+
+// The mark of the two start states and the states without a partner, in the start of the buffer; their length and the rounds.
+#[no_mangle]
+pub extern "C" fn rebatelion_compare(
+    first: &[u8],
+    second: &[u8],
+    buffer: &mut [u8],
+    written: &mut u64,
+    rounds: &mut u64,
+) -> u64
+    ensures { λ r. ⌜ CompareShown (now (first .entry)) (now (second .entry)) (now (buffer .entry)) (now (buffer .exit)) (lent (now (written .entry)) (now (written .exit))) (lent (now (rounds .entry)) (now (rounds .exit))) r ⌝ }
+{
+    let answer = compare::compare(first, second, buffer);
+    match answer {
+        CompareAnswer::Compared(comparison) => {
+            *written = comparison.written as u64;
+            *rounds = comparison.rounds as u64;
+            0
+        }
+        CompareAnswer::Refused(r) => pack(r),
     }
 }
