@@ -4,17 +4,17 @@
  *
  * THE CALLS
  *
- * Each call takes a chart file's bytes, answers one question and returns. A call keeps no state, allocates nothing and
- * always returns, whatever the bytes are; it may be called from several threads at once.
+ * Each call takes the bytes of a chart file, or of two, answers one question and returns. A call keeps no state, allocates
+ * nothing and always returns, whatever the bytes are; it may be called from several threads at once.
  *
  * WHAT IS LENT
  *
- * - Inputs (chart, sheet) are a pointer and a length. They are read during the call only and never written.
+ * - Inputs (chart, sheet, second chart) are a pointer and a length. They are read during the call only and never written.
  * - A buffer is a pointer and a length. An answer fills its start; the bytes after that stay as they were.
  * - A number is a pointer to one aligned uint64_t, never null. An answer is written there.
  * - Everything lent must stay in place until the call returns, and may be freed or reused from then on: no pointer is kept.
- * - What is written, a buffer or a number, must not overlap any other part that is lent to the same call. The chart and the
- *   sheet may overlap, or be the same bytes, since both are only read.
+ * - What is written, a buffer or a number, must not overlap any other part that is lent to the same call. Two inputs may
+ *   overlap, or be the same bytes, since both are only read.
  * - No other thread may write to any part during the call, nor read a buffer or a number.
  * - Where a length is 0 the pointer is not used and may be null.
  *
@@ -26,7 +26,8 @@
  *
  * A refused call has written nothing: every buffer and every number is as it was. The macros below take the value apart.
  *
- * Input: 0 the chart, 1 the sheet, 2 the buffer or the name. Place: the byte at fault, counted from 0, unless said otherwise.
+ * Input: 0 the chart, of two the first; 1 the sheet; 2 the buffer or the name, or two charts together; 3 the second chart.
+ * Place: the byte at fault, counted from 0, unless said otherwise.
  *
  *      1  a needed byte is absent; place: that input's length
  *      2  the chart has no state, or more than 64
@@ -46,6 +47,9 @@
  *     15  4,096 rounds done and a further one still changes the answer; place: 0
  *     16  a short form's F has a variable; place: the first, in the sheet
  *     17  a short form's name is above 3; place: 0
+ *     18  two charts have more than 64 states together; place: 0
+ *     19  two charts have more than 32 distinct action codes; place: 0
+ *     20  two charts have more than 1,024 transitions together; place: 0
  */
 #ifndef REBATELION_H
 #define REBATELION_H
@@ -67,6 +71,7 @@ extern "C" {
 #define REBATELION_MAX_CHART 3172
 #define REBATELION_MAX_SHEET 402
 #define REBATELION_MATRIX (REBATELION_MAX_STATES * REBATELION_MAX_STATES)
+#define REBATELION_MAX_COMPARISON 67
 
 /* The marks of all pairs of states (strong bisimulation).
  *
@@ -107,6 +112,25 @@ uint64_t rebatelion_property(const uint8_t *chart, size_t chart_len, const uint8
  * than 200 nodes, and 14 where the buffer is shorter than the result. */
 uint64_t rebatelion_short_form(const uint8_t *chart, size_t chart_len, const uint8_t *sheet, size_t sheet_len, uint64_t name,
                                uint8_t *buffer, size_t buffer_len, uint64_t *written);
+
+/* An old unit beside a new one: which states of either chart have no bisimilar state in the other.
+ *
+ * The two charts are put side by side, the second's states numbered after the first's, and their actions are matched by code,
+ * whatever their places in the two files; marks are those of rebatelion_marks on that one chart. Mode codes are not compared.
+ * The list fills the start of the buffer, one byte each: the mark of the two start states, which are state 0 of either chart;
+ * a count and the states of the first that have no bisimilar state in the second, rising; a count and the states of the second
+ * that have none in the first, rising, in the second chart's own numbers. *written is its length: 3, and 1 for each state
+ * listed; a buffer of REBATELION_MAX_COMPARISON bytes is always long enough.
+ * Where the charts have n1 and n2 states, the mark is 0 if the start states are bisimilar, and else the smallest depth of a
+ * formula that holds at one of them and not at the other, from 1 to n1 + n2 - 1. *rounds are those of the two charts side by
+ * side, at most n1 + n2 - 1. A chart beside itself, where it is not refused, gives 0 0 0.
+ *
+ * Refuses what is wrong with the first chart; then what is wrong with the second, by the same numbers and with input 3; then,
+ * with input 2, 18 where the two have more than 64 states together, 19 where their action sections have more than 32 distinct
+ * codes (one that both have counts once, and one that no step bears counts too), 20 where they have more than 1,024 transitions
+ * together, and 14 where the buffer is shorter than the list. */
+uint64_t rebatelion_compare(const uint8_t *first, size_t first_len, const uint8_t *second, size_t second_len, uint8_t *buffer,
+                            size_t buffer_len, uint64_t *written, uint64_t *rounds);
 
 #ifdef __cplusplus
 }

@@ -5,15 +5,36 @@
 #include <stdio.h>
 #include <stdlib.h>
 
-/* a frame's first words: the question, the name, which parts are null, the margin, three lengths, three numbers */
-enum { QUESTION, NAME, NULLS, MARGIN, LENGTHS, NUMBERS = LENGTHS + 3, WORDS = NUMBERS + 3 };
+/* the lent parts, in the order of their rooms */
+enum { CHART, SHEET, SECOND, BUFFER, PARTS };
+
+/* a frame's first words: the question, the name, which parts are null, the margin, a length for each part, three numbers */
+enum { QUESTION, NAME, NULLS, MARGIN, LENGTHS, NUMBERS = LENGTHS + PARTS, WORDS = NUMBERS + 3 };
+
+/* Puts the answer in the place of the question; 0 where there is no such question. */
+static int answer(uint64_t w[WORDS], uint8_t *part[PARTS]) {
+    const uint8_t *chart = part[CHART], *sheet = part[SHEET], *second = part[SECOND];
+    uint8_t *buffer = part[BUFFER];
+    size_t chart_len = w[LENGTHS + CHART], sheet_len = w[LENGTHS + SHEET], second_len = w[LENGTHS + SECOND];
+    size_t buffer_len = w[LENGTHS + BUFFER];
+    uint64_t *n = w + NUMBERS;
+    switch (w[QUESTION]) {
+    case 0: w[QUESTION] = rebatelion_marks(chart, chart_len, buffer, buffer_len, n, n + 1); return 1;
+    case 1: w[QUESTION] = rebatelion_simulation(chart, chart_len, buffer, buffer_len, n, n + 1); return 1;
+    case 2: w[QUESTION] = rebatelion_property(chart, chart_len, sheet, sheet_len, n, n + 1, n + 2); return 1;
+    case 3: w[QUESTION] = rebatelion_short_form(chart, chart_len, sheet, sheet_len, w[NAME], buffer, buffer_len, n); return 1;
+    case 4: w[QUESTION] = rebatelion_compare(chart, chart_len, second, second_len, buffer, buffer_len, n, n + 1); return 1;
+    default: return 0;
+    }
+}
 
 int main(void) {
     uint64_t w[WORDS];
     uint8_t *rooms = NULL;
     size_t capacity = 0;
     while (fread(w, sizeof w, 1, stdin) == 1) {
-        size_t total = 6 * w[MARGIN] + w[LENGTHS] + w[LENGTHS + 1] + w[LENGTHS + 2];
+        size_t total = 0;
+        for (int i = 0; i < PARTS; i++) total += w[LENGTHS + i] + 2 * w[MARGIN];
         if (total > capacity) {
             free(rooms);
             rooms = malloc(capacity = total);
@@ -21,24 +42,12 @@ int main(void) {
         }
         if (fread(rooms, 1, total, stdin) != total) return 1;
 
-        uint8_t *part[3], *next = rooms;
-        for (int i = 0; i < 3; i++) {
+        uint8_t *part[PARTS], *next = rooms;
+        for (int i = 0; i < PARTS; i++) {
             part[i] = w[NULLS] >> i & 1 ? NULL : next + w[MARGIN];
             next += w[LENGTHS + i] + 2 * w[MARGIN];
         }
-        const uint8_t *chart = part[0], *sheet = part[1];
-        uint8_t *buffer = part[2];
-        size_t chart_len = w[LENGTHS], sheet_len = w[LENGTHS + 1], buffer_len = w[LENGTHS + 2];
-        uint64_t *n = w + NUMBERS;
-        switch (w[QUESTION]) {
-        case 0: w[QUESTION] = rebatelion_marks(chart, chart_len, buffer, buffer_len, n, n + 1); break;
-        case 1: w[QUESTION] = rebatelion_simulation(chart, chart_len, buffer, buffer_len, n, n + 1); break;
-        case 2: w[QUESTION] = rebatelion_property(chart, chart_len, sheet, sheet_len, n, n + 1, n + 2); break;
-        case 3:
-            w[QUESTION] = rebatelion_short_form(chart, chart_len, sheet, sheet_len, w[NAME], buffer, buffer_len, n);
-            break;
-        default: return 1;
-        }
+        if (!answer(w, part)) return 1;
 
         if (fwrite(w, sizeof w, 1, stdout) != 1 || fwrite(rooms, 1, total, stdout) != total || fflush(stdout) != 0) return 1;
     }

@@ -29,6 +29,9 @@ static const uint8_t e[] = {6, 1, 2, 3, 4, 5, 6, 3, 10, 20, 30, 7, 0, 0, 0, 2, 1
                             3, 1, 0, 4, 2, 1, 5, 2, 2, 5, 3, 1, 5, 4, 2, 5};
 static const uint8_t e_sheet[] = {1, 1, 6, 6, 0, 3, 5, 1, 1, 5, 2, 1};
 static const uint8_t l[] = {3, 1, 2, 3, 1, 10, 3, 0, 0, 0, 0, 1, 0, 1, 1, 0, 2};
+/* E's two designs, each alone */
+static const uint8_t one[] = {3, 1, 3, 6, 3, 10, 20, 30, 3, 0, 0, 0, 1, 1, 1, 2, 1, 2, 2};
+static const uint8_t two[] = {4, 2, 4, 5, 6, 3, 10, 20, 30, 4, 0, 0, 0, 1, 0, 0, 2, 1, 1, 3, 2, 2, 3};
 
 /* lent numbers and a lent buffer, with what they hold before a call */
 enum { KEPT = 77, LENT = 50 };
@@ -159,21 +162,58 @@ static void short_form(void) {
     EXPECT_KEPT();
 }
 
+static void compare(void) {
+    const uint8_t expected[] = {2, 2, 0, 1, 3, 0, 1, 2};
+    asked = "compare";
+    for (size_t length = sizeof expected; length <= LENT; length += LENT - sizeof expected) {
+        fill();
+        EXPECT(rebatelion_compare(one, sizeof one, two, sizeof two, buffer, length, &x, &y), 0);
+        EXPECT(x, sizeof expected);
+        EXPECT(y, 2);
+        EXPECT(z, KEPT);
+        EXPECT_BYTES(buffer, expected, sizeof expected);
+        EXPECT_BYTES(buffer + sizeof expected, before + sizeof expected, LENT - sizeof expected);
+    }
+    /* both inputs may be the same bytes */
+    EXPECT(rebatelion_compare(e, sizeof e, e, sizeof e, buffer, 3, &x, &y), 0);
+    EXPECT(x, 3);
+    EXPECT(y, 2);
+    EXPECT_BYTES(buffer, ((const uint8_t[]){0, 0, 0}), 3);
+
+    fill();
+    EXPECT_REFUSED(rebatelion_compare(NULL, 0, NULL, 0, NULL, 0, &x, &y), 0, 1, 0);
+    EXPECT_KEPT();
+    EXPECT_REFUSED(rebatelion_compare(NULL, 0, two, sizeof two, buffer, LENT, &x, &y), 0, 1, 0);
+    EXPECT_KEPT();
+    EXPECT_REFUSED(rebatelion_compare(one, sizeof one, NULL, 0, buffer, LENT, &x, &y), 3, 1, 0);
+    EXPECT_KEPT();
+    EXPECT_REFUSED(rebatelion_compare(e, sizeof e - 1, e, sizeof e - 1, buffer, LENT, &x, &y), 0, 1, 33);
+    EXPECT_KEPT();
+    EXPECT_REFUSED(rebatelion_compare(l, sizeof l, e, sizeof e - 1, buffer, LENT, &x, &y), 3, 1, 33);
+    EXPECT_KEPT();
+    EXPECT_REFUSED(rebatelion_compare(l, sizeof l, e + 1, sizeof e - 1, buffer, LENT, &x, &y), 3, 5, 6);
+    EXPECT_KEPT();
+    EXPECT_REFUSED(rebatelion_compare(one, sizeof one, two, sizeof two, NULL, 0, &x, &y), 2, 14, 0);
+    EXPECT_KEPT();
+    EXPECT_REFUSED(rebatelion_compare(one, sizeof one, two, sizeof two, buffer, sizeof expected - 1, &x, &y), 2, 14, 0);
+    EXPECT_KEPT();
+}
+
 /* the lengths that the header names: accepted, a byte more refused 8, and buffers that are long enough */
 static uint8_t longest_chart[REBATELION_MAX_CHART + 1], longest_sheet[REBATELION_MAX_SHEET + 1], room[REBATELION_MATRIX];
 
-/* 64 states, 32 actions, and from each of 32 states one step by each action to state 0 */
-static size_t make_longest(uint8_t *at) {
+/* so many states; so many action codes, from the first on; steps to state 0, from each state in turn one by each action */
+static size_t make(uint8_t *at, int states, int codes, int first_code, int steps) {
     const uint8_t *start = at;
-    *at++ = 64;
-    for (int i = 0; i < 64; i++) *at++ = (uint8_t)i;
-    *at++ = 32;
-    for (int i = 0; i < 32; i++) *at++ = (uint8_t)i;
-    *at++ = 1024 % 256;
-    *at++ = 1024 / 256;
-    for (int i = 0; i < 1024; i++) {
-        *at++ = (uint8_t)(i / 32);
-        *at++ = (uint8_t)(i % 32);
+    *at++ = (uint8_t)states;
+    for (int i = 0; i < states; i++) *at++ = (uint8_t)i;
+    *at++ = (uint8_t)codes;
+    for (int i = 0; i < codes; i++) *at++ = (uint8_t)(first_code + i);
+    *at++ = (uint8_t)(steps % 256);
+    *at++ = (uint8_t)(steps / 256);
+    for (int i = 0; i < steps; i++) {
+        *at++ = (uint8_t)(i / codes);
+        *at++ = (uint8_t)(i % codes);
         *at++ = 0;
     }
     return (size_t)(at - start);
@@ -182,7 +222,7 @@ static size_t make_longest(uint8_t *at) {
 static void longest(void) {
     asked = "longest chart";
     EXPECT(REBATELION_MAX_CHART, 3172);
-    EXPECT(make_longest(longest_chart), REBATELION_MAX_CHART);
+    EXPECT(make(longest_chart, 64, 32, 0, 1024), REBATELION_MAX_CHART);
     fill();
     EXPECT(rebatelion_marks(longest_chart, REBATELION_MAX_CHART, room, REBATELION_MATRIX, &x, &y), 0);
     EXPECT(x, REBATELION_MAX_STATES);
@@ -218,13 +258,51 @@ static void longest_sheets(void) {
     EXPECT(x, 400);
 }
 
+/* one chart of so many states, codes and steps beside another, with other codes, in a buffer of this length */
+static uint64_t beside(const int first[3], const int second[3], size_t length) {
+    static uint8_t charts[2][REBATELION_MAX_CHART];
+    size_t first_len = make(charts[0], first[0], first[1], 0, first[2]);
+    size_t second_len = make(charts[1], second[0], second[1], 100, second[2]);
+    return rebatelion_compare(charts[0], first_len, charts[1], second_len, room, length, &x, &y);
+}
+
+/* the longest list that the header names: each of 64 states has a step, and none has a partner; and what is too much */
+static void longest_lists(void) {
+    const int loops[] = {32, 1, 32}, more[] = {33, 1, 0}, codes[] = {1, 32, 0}, steps[] = {33, 31, 1023};
+    const size_t most = REBATELION_MAX_COMPARISON;
+    asked = "longest list";
+    EXPECT(REBATELION_MAX_COMPARISON, 67);
+    fill();
+    EXPECT(beside(loops, loops, most), 0);
+    EXPECT(x, REBATELION_MAX_COMPARISON);
+    EXPECT(y, 1);
+    EXPECT(room[0], 1);
+    EXPECT(room[1], 32);
+    EXPECT(room[33], 31);
+    EXPECT(room[34], 32);
+    EXPECT(room[66], 31);
+    fill();
+    EXPECT_REFUSED(beside(loops, loops, most - 1), 2, 14, 0);
+    EXPECT_KEPT();
+    EXPECT_REFUSED(beside(loops, more, most), 2, 18, 0);
+    EXPECT_KEPT();
+    EXPECT_REFUSED(beside(codes, loops, most), 2, 19, 0);
+    EXPECT_KEPT();
+    EXPECT(beside(steps, (const int[]){1, 1, 1}, most), 0);
+    fill();
+    EXPECT_REFUSED(beside(steps, (const int[]){2, 1, 2}, most), 2, 20, 0);
+    EXPECT_KEPT();
+}
+
 int main(void) {
     marks();
     simulation();
     property();
     short_form();
+    compare();
     longest();
     longest_sheets();
+    longest_lists();
     printf(wrong ? "calls from C FAILED\n" : "calls from C passed\n");
     return wrong;
 }

@@ -10,9 +10,11 @@ pub enum Question {
     Simulation = 1,
     Property = 2,
     ShortForm = 3,
+    Compare = 4,
 }
 
-pub const QUESTIONS: [Question; 4] = [Question::Marks, Question::Simulation, Question::Property, Question::ShortForm];
+pub const QUESTIONS: [Question; 5] =
+    [Question::Marks, Question::Simulation, Question::Property, Question::ShortForm, Question::Compare];
 
 /// Bytes before and after a lent part.
 pub const MARGIN: usize = 32;
@@ -44,14 +46,15 @@ impl Room {
     }
 }
 
-/// One call with all that is lent to it. The numbers are those of the prototype, in its order; where it has fewer than
-/// three, the others are not lent.
+/// One call with all that is lent to it; the chart is the first where there are two. The numbers are those of the prototype, in
+/// its order; where it has fewer than three, the others are not lent, and neither are the parts that it does not have.
 #[derive(Clone, PartialEq, Eq)]
 pub struct Call {
     pub question: Question,
     pub name: u64,
     pub chart: Room,
     pub sheet: Room,
+    pub second: Room,
     pub buffer: Room,
     pub numbers: [u64; 3],
 }
@@ -67,7 +70,7 @@ mod linked {
     type Out = *mut u8;
     type Number = *mut u64;
 
-    // cn, sn and bn are the lengths of chart, sheet and buffer
+    // cn, sn and bn are the lengths of chart, sheet or second chart, and buffer
     extern "C" {
         fn rebatelion_marks(chart: In, cn: usize, buffer: Out, bn: usize, states: Number, rounds: Number) -> u64;
         fn rebatelion_simulation(chart: In, cn: usize, buffer: Out, bn: usize, states: Number, rounds: Number) -> u64;
@@ -81,6 +84,16 @@ mod linked {
             buffer: Out,
             bn: usize,
             written: Number,
+        ) -> u64;
+        fn rebatelion_compare(
+            chart: In,
+            cn: usize,
+            second: In,
+            sn: usize,
+            buffer: Out,
+            bn: usize,
+            written: Number,
+            rounds: Number,
         ) -> u64;
     }
 
@@ -100,6 +113,7 @@ mod linked {
         pub fn call(&mut self, call: &mut Call) -> u64 {
             let (chart, chart_len) = lent(&mut call.chart);
             let (sheet, sheet_len) = lent(&mut call.sheet);
+            let (second, second_len) = lent(&mut call.second);
             let (buffer, buffer_len) = lent(&mut call.buffer);
             let [a, b, c] = &mut call.numbers;
             // SAFETY: the prototypes are those of include/rebatelion.h; each part lies in its own room, and a null one is empty
@@ -111,6 +125,7 @@ mod linked {
                     Question::ShortForm => {
                         rebatelion_short_form(chart, chart_len, sheet, sheet_len, call.name, buffer, buffer_len, a)
                     }
+                    Question::Compare => rebatelion_compare(chart, chart_len, second, second_len, buffer, buffer_len, a, b),
                 }
             }
         }
@@ -147,13 +162,13 @@ mod bridged {
         }
 
         /// A frame goes there, and the same frame comes back with the answer in its first word: the question or the code,
-        /// the name, which parts are null, the margin, three lengths, three numbers, three rooms.
+        /// the name, which parts are null, the margin, four lengths, three numbers, four rooms.
         pub fn call(&mut self, call: &mut Call) -> u64 {
-            let rooms = [&mut call.chart, &mut call.sheet, &mut call.buffer];
+            let rooms = [&mut call.chart, &mut call.sheet, &mut call.second, &mut call.buffer];
             let frame = &mut self.frame;
             frame.clear();
             let nulls = rooms.iter().enumerate().map(|(i, room)| (room.null as u64) << i).sum();
-            let lengths = [rooms[0].len() as u64, rooms[1].len() as u64, rooms[2].len() as u64];
+            let lengths: Vec<u64> = rooms.iter().map(|room| room.len() as u64).collect();
             for word in [call.question as u64, call.name, nulls, MARGIN as u64].iter().chain(&lengths).chain(&call.numbers) {
                 frame.extend(word.to_le_bytes());
             }
@@ -161,15 +176,16 @@ mod bridged {
                 frame.extend(&room.bytes);
             }
             if let Err(e) = self.to.write_all(frame).and_then(|_| self.from.read_exact(frame)) {
-                let [chart, sheet, _] = rooms.map(|room| room.part().to_vec());
+                let [chart, sheet, second, _] = rooms.map(|room| room.part().to_vec());
                 panic!(
-                    "the archive's program ended within a call: {e}\n{:?}, chart {chart:02x?}, sheet {sheet:02x?}",
+                    "the archive's program ended within a call: {e}\n\
+                     {:?}, chart {chart:02x?}, sheet {sheet:02x?}, second {second:02x?}",
                     call.question
                 );
             }
             let word = |i: usize| u64::from_le_bytes(frame[8 * i..8 * i + 8].try_into().unwrap());
-            call.numbers = [word(7), word(8), word(9)];
-            let mut at = 80;
+            call.numbers = [word(8), word(9), word(10)];
+            let mut at = 88;
             for room in rooms {
                 let length = room.bytes.len();
                 room.bytes.copy_from_slice(&frame[at..at + length]);

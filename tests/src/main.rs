@@ -1,14 +1,16 @@
-//! Holds the proved archive against document 01, by an independent implementation of it (reference/) on some hundred thousand
-//! inputs a question. The inputs are the same in every run. Exits with 1 where anything differs, where a question had less than
-//! 200,000 inputs, where a refusal that can occur was not met at every place that it can have (table.rs), where something else
-//! that must be reached was not (reach.rs), or where a fault that is put into the archive's answers was not noticed (faults/).
+//! Holds the proved archive against documents 01 and 02, by an independent implementation of them (reference/) on some hundred
+//! thousand inputs a question. The inputs are the same in every run. Exits with 1 where anything differs, where a question had
+//! less than 200,000 inputs, where a refusal that can occur was not met at every place that it can have (table.rs), where
+//! something else that must be reached was not (reach.rs), or where a fault that is put into the archive's answers was not noticed
+//! (faults/).
 //!
 //!     checks               all of it
 //!     checks faults        the same, but what is shown is a line for each fault
 //!     checks faults NAME   with that fault in every answer which it alters, until a part notices it
 
 mod archive;
-mod compare;
+mod checker;
+mod counts;
 mod faults;
 mod inputs;
 mod outcome;
@@ -18,7 +20,7 @@ mod reference;
 mod table;
 mod tally;
 
-use compare::Checker;
+use checker::Checker;
 use faults::Fault;
 use std::sync::atomic::{AtomicUsize, Ordering};
 use std::sync::Mutex;

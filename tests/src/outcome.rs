@@ -2,8 +2,10 @@
 //! every byte must agree.
 
 use crate::archive::{Call, Question, MARGIN};
+use crate::counts::{byte, codes_together, Counts};
 use crate::reference::refusal::Refusal;
-use crate::reference::{nearness, property, short_form};
+use crate::reference::{compare, nearness, property, short_form};
+use std::ops::Range;
 
 /// The code that a call returned, and all that was lent to it as it is afterwards.
 #[derive(Clone, PartialEq, Eq)]
@@ -26,27 +28,57 @@ impl Outcome {
         (self.code >> 16) as usize
     }
 
+    /// The input that a refusal names.
+    pub fn input(&self) -> u64 {
+        self.code >> 8 & 255
+    }
+
     /// A byte of the chart, 0 where there is none.
     pub fn chart_byte(&self, at: usize) -> usize {
-        self.left.chart.part().get(at).copied().unwrap_or(0) as usize
+        byte(self.left.chart.part(), at)
+    }
+
+    /// The counts of the chart, which is the first where there are two.
+    pub fn counts(&self) -> Counts {
+        Counts::of(self.left.chart.part())
+    }
+
+    /// The counts of the second chart.
+    pub fn second(&self) -> Counts {
+        Counts::of(self.left.second.part())
     }
 
     pub fn states(&self) -> usize {
-        self.chart_byte(0)
+        self.counts().states
     }
 
     pub fn actions(&self) -> usize {
-        self.chart_byte(1 + self.states())
-    }
-
-    /// Where the triples start.
-    pub fn first_triple(&self) -> usize {
-        self.states() + self.actions() + 4
+        self.counts().actions
     }
 
     pub fn transitions(&self) -> usize {
-        let end = self.first_triple();
-        self.chart_byte(end - 2) + 256 * self.chart_byte(end - 1)
+        self.counts().transitions
+    }
+
+    /// The states of both charts.
+    pub fn states_together(&self) -> usize {
+        self.states() + self.second().states
+    }
+
+    /// The action codes of both charts, which are good, each once.
+    pub fn codes_together(&self) -> usize {
+        codes_together(self.left.chart.part(), self.left.second.part())
+    }
+
+    /// The transitions of both charts.
+    pub fn transitions_together(&self) -> usize {
+        self.transitions() + self.second().transitions
+    }
+
+    /// Where the answer of a comparison lists the states of the first chart, and where those of the second.
+    pub fn lists(&self) -> [Range<usize>; 2] {
+        let first = 2 + self.left.buffer.part()[1] as usize;
+        [2..first, first + 1..self.filled()]
     }
 
     /// Of a good chart: as many states, actions and transitions as can be.
@@ -70,6 +102,7 @@ impl Outcome {
             Question::Marks | Question::Simulation => self.left.numbers[1],
             Question::Property => self.left.numbers[2],
             Question::ShortForm => 0,
+            Question::Compare => self.left.numbers[1],
         }
     }
 
@@ -78,7 +111,7 @@ impl Outcome {
         match self.left.question {
             Question::Marks | Question::Simulation => self.states().pow(2),
             Question::Property => 0,
-            Question::ShortForm => self.left.numbers[0] as usize,
+            Question::ShortForm | Question::Compare => self.left.numbers[0] as usize,
         }
     }
 
@@ -96,7 +129,7 @@ pub struct Expected {
 
 pub fn expected(before: &Call) -> Expected {
     let mut left = before.clone();
-    let (chart, sheet) = (before.chart.part(), before.sheet.part());
+    let (chart, sheet, second) = (before.chart.part(), before.sheet.part(), before.second.part());
     let (numbers, buffer) = (&mut left.numbers, left.buffer.part_mut());
     let answer = match before.question {
         Question::Marks => nearness::marks(chart, buffer).map(|m| numbers[..2].copy_from_slice(&[m.states, m.rounds])),
@@ -105,12 +138,15 @@ pub fn expected(before: &Call) -> Expected {
         }
         Question::Property => property::property(chart, sheet).map(|s| *numbers = [s.word, s.count, s.rounds]),
         Question::ShortForm => short_form::short_form(chart, sheet, before.name, buffer).map(|written| numbers[0] = written),
+        Question::Compare => {
+            compare::compare(chart, second, buffer).map(|c| numbers[..2].copy_from_slice(&[c.written, c.rounds]))
+        }
     };
     let refused = answer.err();
     Expected { refused, outcome: Outcome { code: refused.map_or(0, |r| r.packed()), left } }
 }
 
-/// The comparison: nothing where all agrees, and else what was asked and where it differs.
+/// The check against the reference: nothing where all agrees, and else what was asked and where it differs.
 pub fn difference(before: &Call, expected: &Expected, told: &Outcome) -> Option<String> {
     (*told != expected.outcome).then(|| describe(before, expected, told))
 }
@@ -119,10 +155,11 @@ fn describe(before: &Call, expected: &Expected, told: &Outcome) -> String {
     let hex = |bytes: &[u8]| bytes.iter().map(|b| format!("{b:02x}")).collect::<String>();
     let (was, is) = (&expected.outcome.left, &told.left);
     let mut out = format!(
-        "{:?}\n  chart  {}\n  sheet  {}\n  name   {}, buffer of {} bytes",
+        "{:?}\n  chart  {}\n  sheet  {}\n  second {}\n  name   {}, buffer of {} bytes",
         before.question,
         hex(before.chart.part()),
         hex(before.sheet.part()),
+        hex(before.second.part()),
         before.name,
         before.buffer.len()
     );
@@ -137,9 +174,12 @@ fn describe(before: &Call, expected: &Expected, told: &Outcome) -> String {
     if is.numbers != was.numbers {
         out += &format!("\n  numbers   lent {:?}, expected {:?}, left {:?}", before.numbers, was.numbers, is.numbers);
     }
-    for (name, was, is) in
-        [("chart", &was.chart, &is.chart), ("sheet", &was.sheet, &is.sheet), ("buffer", &was.buffer, &is.buffer)]
-    {
+    for (name, was, is) in [
+        ("chart", &was.chart, &is.chart),
+        ("sheet", &was.sheet, &is.sheet),
+        ("second", &was.second, &is.second),
+        ("buffer", &was.buffer, &is.buffer),
+    ] {
         if let Some(at) = was.bytes.iter().zip(&is.bytes).position(|(a, b)| a != b) {
             let place = at as i64 - MARGIN as i64;
             out += &format!("\n  {name}    byte {place} is {}, expected {}", is.bytes[at], was.bytes[at]);

@@ -12,8 +12,8 @@ const LEAST_ASKED: usize = 200_000;
 /// A refusal's number, its first and its last place, and what can stand there.
 type Row = (u8, RangeInclusive<usize>, &'static [&'static str]);
 
-/// Of the chart. Its triples start at byte n + m + 4, which is 5 to 100, and its last byte is 3,171 at the most.
-const OF_THE_CHART: &[Row] = &[
+/// Of a chart. Its triples start at byte n + m + 4, which is 5 to 100, and its last byte is 3,171 at the most.
+const OF_A_CHART: &[Row] = &[
     (
         1,
         0..=3171,
@@ -54,6 +54,8 @@ const OF_A_SHORT_FORM: &[Row] = &[(10, 2..=2, &["too many nodes in the result"])
 
 const OF_THE_BUFFER: &[Row] = &[(14, 0..=0, &["buffer"])];
 const OF_THE_NAME: &[Row] = &[(17, 0..=0, &["name"])];
+const OF_TWO_CHARTS: &[Row] =
+    &[(18, 0..=0, &["states together"]), (19, 0..=0, &["action codes together"]), (20, 0..=0, &["transitions together"])];
 
 /// Places between the first and the last that no input has. A complete formula has an odd number of bytes; where a variable has
 /// an odd number of them before it, an operand comes after it, and at 400 that would be a node too many.
@@ -66,22 +68,28 @@ fn can_occur(question: Question) -> Vec<(Input, &'static Row)> {
     let of_the_sheet = [(Input::Sheet, OF_THE_SHEET)];
     let of_a_short_form =
         [(Input::Sheet, OF_A_SHORT_FORM), (Input::BufferOrName, OF_THE_BUFFER), (Input::BufferOrName, OF_THE_NAME)];
-    let mut lists = vec![(Input::Chart, OF_THE_CHART)];
+    let of_two_charts =
+        [(Input::Second, OF_A_CHART), (Input::BufferOrName, OF_TWO_CHARTS), (Input::BufferOrName, OF_THE_BUFFER)];
+    let mut lists = vec![(Input::Chart, OF_A_CHART)];
     match question {
         Question::Marks | Question::Simulation => lists.push((Input::BufferOrName, OF_THE_BUFFER)),
         Question::Property => lists.extend(of_the_sheet),
         Question::ShortForm => lists.extend(of_the_sheet.into_iter().chain(of_a_short_form)),
+        Question::Compare => lists.extend(of_two_charts),
     }
     lists.into_iter().flat_map(|(input, rows)| rows.iter().map(move |row| (input, row))).collect()
 }
 
-fn row(title: &str, counts: [u64; 4]) {
-    let [a, b, c, d] = counts.map(|count| if count == 0 { "-".to_string() } else { count.to_string() });
-    println!("{title:<52}{a:>10}{b:>12}{c:>10}{d:>12}");
+/// A count for each question.
+type Counts = [u64; QUESTIONS.len()];
+
+fn row(title: &str, counts: Counts) {
+    let [a, b, c, d, e] = counts.map(|count| if count == 0 { "-".to_string() } else { count.to_string() });
+    println!("{title:<52}{a:>10}{b:>12}{c:>10}{d:>12}{e:>9}");
 }
 
 /// The sum of those refusals of each question that are wanted.
-fn refusals(tally: &Tally, wanted: impl Fn(u8, Input, &str) -> bool) -> [u64; 4] {
+fn refusals(tally: &Tally, wanted: impl Fn(u8, Input, &str) -> bool) -> Counts {
     QUESTIONS.map(|question| {
         let met = tally.refused.iter().filter(|((q, number, input, what), _)| *q == question && wanted(*number, *input, what));
         met.map(|(_, count)| count).sum()
@@ -94,11 +102,11 @@ fn different_inputs(tally: &Tally, question: Question) -> usize {
 
 /// Prints the counts.
 pub fn show(tally: &Tally) {
-    println!("{:<52}{:>10}{:>12}{:>10}{:>12}", "", "marks", "simulation", "property", "short form");
+    println!("{:<52}{:>10}{:>12}{:>10}{:>12}{:>9}", "", "marks", "simulation", "property", "short form", "compare");
     row("asked", QUESTIONS.map(|q| tally.asked.get(&q).copied().unwrap_or(0)));
     row("different inputs", QUESTIONS.map(|q| different_inputs(tally, q) as u64));
     row("answered", QUESTIONS.map(|q| tally.answered.get(&q).copied().unwrap_or(0)));
-    for number in 1..=17 {
+    for number in 1..=20 {
         row(&format!("refused {number}"), refusals(tally, |n, _, _| n == number));
     }
 
@@ -118,7 +126,7 @@ pub fn show(tally: &Tally) {
         row(&format!("{number:>4}  {input:?}"), counts);
     }
 
-    println!("\nreached by answers");
+    println!("\nreached");
     for (what, range) in reach::rows() {
         let reached = tally.reached.range((what, *range.start())..=(what, *range.end())).count();
         println!("{what:<52}{reached:>10} of {}", range.count());

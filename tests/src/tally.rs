@@ -18,7 +18,7 @@ pub struct Tally {
     pub refused: BTreeMap<(Question, u8, Input, &'static str), u64>,
     /// Question, number, input and the place itself.
     pub places: BTreeSet<(Question, u8, Input, usize)>,
-    /// What answers reached, as src/reach.rs lists it.
+    /// What was reached, as src/reach.rs lists it.
     pub reached: BTreeSet<reach::Value>,
     /// By name, each fault whose inputs were met.
     pub met: BTreeMap<&'static str, Met>,
@@ -35,13 +35,11 @@ impl Tally {
         let question = call.question;
         *self.asked.entry(question).or_default() += 1;
         let mut hasher = DefaultHasher::new();
-        (call.chart.part(), call.sheet.part(), call.name, call.buffer.len()).hash(&mut hasher);
+        (call.chart.part(), call.sheet.part(), call.second.part(), call.name, call.buffer.len()).hash(&mut hasher);
         self.inputs.insert((question, hasher.finish()));
+        self.reached.extend(reach::by(&expected.outcome));
         match expected.refused {
-            None => {
-                *self.answered.entry(question).or_default() += 1;
-                self.reached.extend(reach::by(&expected.outcome));
-            }
+            None => *self.answered.entry(question).or_default() += 1,
             Some(r) => {
                 *self.refused.entry((question, r.number, r.input, r.what)).or_default() += 1;
                 self.places.insert((question, r.number, r.input, r.place));

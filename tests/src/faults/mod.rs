@@ -1,7 +1,9 @@
 //! A test of the tests. Each fault here alters some answers of the archive, only few of them and only a little, as an error
-//! that is rarely run would. Where the inputs meet such an answer, it is altered and compared once more, by the comparison that
-//! every answer goes through. A fault that this does not notice fails the run, and so does one whose answers are never met.
+//! that is rarely run would. Where the inputs meet such an answer, it is altered and goes once more through the check against
+//! the reference, as every answer does. A fault that this does not notice fails the run, and so does one whose answers are
+//! never met.
 
+mod comparisons;
 mod matrices;
 mod refusals;
 mod sheets;
@@ -21,7 +23,7 @@ pub struct Fault {
 }
 
 pub fn all() -> impl Iterator<Item = &'static Fault> {
-    [matrices::FAULTS, sheets::FAULTS, refusals::FAULTS].into_iter().flatten()
+    [matrices::FAULTS, sheets::FAULTS, refusals::FAULTS, comparisons::FAULTS].into_iter().flatten()
 }
 
 pub fn named(name: &str) -> &'static Fault {
@@ -45,7 +47,7 @@ impl Met {
     }
 }
 
-/// Puts each fault that is met for the first time into a right outcome, and lets the comparison look at it.
+/// Puts each fault that is met for the first time into a right outcome, and lets the check against the reference look at it.
 pub fn try_all(tally: &mut Tally, by: &'static str, right: &Outcome, notices: impl Fn(&Outcome) -> bool) {
     let after = tally.calls();
     for fault in all().filter(|fault| (fault.when)(right)) {

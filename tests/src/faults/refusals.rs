@@ -9,7 +9,7 @@ const ONE_INPUT: u64 = 1 << 8;
 
 /// Where the triple starts whose byte was refused.
 fn refused_triple(o: &Outcome) -> usize {
-    o.place() - (o.place() - o.first_triple()) % 3
+    o.place() - (o.place() - o.counts().first_triple()) % 3
 }
 
 /// 6 for the action or target of a late triple whose source is smaller than that of the one before.

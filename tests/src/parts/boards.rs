@@ -1,6 +1,6 @@
 //! The boards and edges of document 01, with its values.
 
-use crate::compare::{Checker, Told};
+use crate::checker::{Checker, Told};
 use crate::inputs::charts::counted;
 use crate::Job;
 

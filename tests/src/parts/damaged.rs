@@ -2,32 +2,39 @@
 
 use super::boards::{E, E_SHEET, L, L_OR};
 use super::order::GOOD;
-use crate::compare::{cut, Checker};
+use crate::checker::{cut, Checker, Lent};
 use crate::inputs::{charts, damage, sheets};
 use crate::Job;
+
+/// Every question about a chart, in the comparison as the first and as the second.
+fn every_question<'a>(c: &mut Checker, chart: impl Into<Lent<'a>>, sheet: &[u8]) {
+    let chart = chart.into();
+    c.all(chart, sheet);
+    c.beside(chart, &E);
+}
 
 /// A chart: every cut, and at every byte `values` and its neighbours, a byte added and one taken away.
 fn whole_chart(c: &mut Checker, chart: &[u8], values: &[u8]) {
     for length in 0..chart.len() {
-        c.all(cut(chart, length), &E_SHEET);
+        every_question(c, cut(chart, length), &E_SHEET);
     }
     for at in 0..chart.len() {
         let mut changed = chart.to_vec();
         for &value in [chart[at].wrapping_add(1), chart[at].wrapping_sub(1)].iter().chain(values) {
             changed[at] = value;
-            c.all(&changed, &E_SHEET);
+            every_question(c, &changed, &E_SHEET);
         }
         let mut longer = chart.to_vec();
         longer.insert(at, c.random.byte());
-        c.all(&longer, &E_SHEET);
+        every_question(c, &longer, &E_SHEET);
         let mut shorter = chart.to_vec();
         shorter.remove(at);
-        c.all(&shorter, &E_SHEET);
+        every_question(c, &shorter, &E_SHEET);
     }
     for more in [1, 2, 3, 300, 70_000] {
         let mut longer = chart.to_vec();
         longer.resize(chart.len() + more, 1);
-        c.all(&longer, &E_SHEET);
+        every_question(c, &longer, &E_SHEET);
     }
 }
 
@@ -70,7 +77,7 @@ fn longest_chart(c: &mut Checker) {
     for (at, value) in whole.chain(off) {
         let mut changed = chart.clone();
         changed[at] = value;
-        c.all(&changed, &sheet);
+        every_question(c, &changed, &sheet);
     }
 }
 
@@ -123,7 +130,7 @@ pub fn jobs() -> Vec<Job> {
         Job { name: "damaged: the longest chart", run: Box::new(longest_chart) },
         Job {
             name: "damaged: two faults in a chart",
-            run: Box::new(|c| two_faults(&GOOD, &[0, 1, 2, 3, 33, 65, 255], |chart| c.all(chart, &L_OR))),
+            run: Box::new(|c| two_faults(&GOOD, &[0, 1, 2, 3, 33, 65, 255], |chart| every_question(c, chart, &L_OR))),
         },
         Job {
             name: "damaged: two faults in a sheet",

@@ -1,7 +1,7 @@
 //! The archive's answers beside the definitions themselves, on charts so small that everything can be tried: all formulas by
 //! depth, all relations, all sets.
 
-use crate::compare::Checker;
+use crate::checker::Checker;
 use crate::inputs::{charts, sheets};
 use crate::reference::chart::{Chart, Step};
 use crate::reference::nearness::matched;
@@ -10,7 +10,7 @@ use crate::reference::sheet::{self, Formula, Solution};
 use crate::Job;
 
 /// Every chart of n states and m actions.
-fn each_chart(n: usize, m: usize, share: usize, shares: usize, mut each: impl FnMut(&Chart)) {
+pub fn each_chart(n: usize, m: usize, share: usize, shares: usize, mut each: impl FnMut(&Chart)) {
     let all = n * m * n;
     for set in (0..1u64 << all).filter(|set| *set as usize % shares == share) {
         let steps = (0..all).filter(|i| set >> i & 1 == 1);
@@ -67,7 +67,7 @@ fn one_step(chart: &Chart, set: Vectors) -> Vectors {
 }
 
 /// For each pair 0 if no formula without variable tells the two apart, and else the smallest depth of one that does.
-fn smallest_depths(chart: &Chart) -> Vec<u8> {
+pub fn smallest_depths(chart: &Chart) -> Vec<u8> {
     let n = chart.states();
     let mut depths = vec![0; n * n];
     // depth 0: true and false

@@ -1,6 +1,6 @@
 //! What the short forms mean, by search on the chart's graph: the sheet that is written, asked as a property.
 
-use crate::compare::Checker;
+use crate::checker::Checker;
 use crate::inputs::charts;
 use crate::inputs::sheets::{self, Leaves};
 use crate::reference::chart::Chart;

@@ -1,6 +1,7 @@
 //! The parts of the checks, each a list of jobs.
 
 pub mod boards;
+pub mod comparison;
 pub mod damaged;
 pub mod definitions;
 pub mod forms;
@@ -11,7 +12,7 @@ pub mod sizes;
 pub mod small;
 pub mod valid;
 
-use crate::compare::Checker;
+use crate::checker::Checker;
 use crate::Job;
 use std::ops::RangeInclusive;
 
@@ -37,6 +38,7 @@ pub fn jobs() -> Vec<Job> {
         sizes::jobs(),
         places::jobs(),
         damaged::jobs(),
+        comparison::jobs(),
         valid::jobs(),
         small::jobs(),
         definitions::jobs(),

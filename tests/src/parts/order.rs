@@ -1,7 +1,7 @@
 //! Competing faults, with the refusal that document 01's order gives, written by hand.
 
 use super::boards::E;
-use crate::compare::Checker;
+use crate::checker::Checker;
 use crate::Job;
 
 /// A chart of 14 bytes, good in all: counts at 0, 3 and 6, codes at 4, triples at 8 and 11.
@@ -26,7 +26,7 @@ fn changed(changes: &[(usize, u8)], length: usize) -> Vec<u8> {
 }
 
 /// What, the chart, and the number and the place of its refusal.
-type Faulty = (&'static str, Vec<u8>, u64, u64);
+pub type Faulty = (&'static str, Vec<u8>, u64, u64);
 
 fn before_the_triples() -> Vec<Faulty> {
     vec![
@@ -73,13 +73,25 @@ fn triples() -> Vec<Faulty> {
     ]
 }
 
+/// Faulty charts.
+pub fn faulty() -> impl Iterator<Item = Faulty> {
+    before_the_triples().into_iter().chain(triples())
+}
+
 fn charts(c: &mut Checker) {
-    for (what, chart, number, place) in before_the_triples().into_iter().chain(triples()) {
+    for (what, chart, number, place) in faulty() {
         for chart in with_more(&chart, number) {
             // with no room for an answer too: the chart comes first; and with a bad sheet
             for buffer in [0, 4096] {
-                let told = [c.marks(&chart, buffer), c.simulation(&chart, buffer), c.short_form(&chart, &[0], 9, buffer)];
+                let told = [
+                    c.marks(&chart, buffer),
+                    c.simulation(&chart, buffer),
+                    c.short_form(&chart, &[0], 9, buffer),
+                    c.compare(&chart, &[0], buffer),
+                ];
                 told.iter().for_each(|told| c.expect_refused(what, told, (0, number, place)));
+                let told = c.compare(&GOOD, &chart, buffer);
+                c.expect_refused(what, &told, (3, number, place));
             }
             let told = c.property(&chart, &[0]);
             c.expect_refused(what, &told, (0, number, place));

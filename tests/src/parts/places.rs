@@ -2,17 +2,21 @@
 //! Which places these are stands in src/table.rs.
 
 use super::boards::E;
-use crate::compare::{cut, Checker, Lent};
+use crate::checker::{cut, Checker, Lent};
 use crate::inputs::{charts, sheets};
 use crate::Job;
 
 /// F, for any chart.
 const PLAIN: [u8; 4] = [1, 0, 1, 1];
 
-/// All four questions refuse the chart so.
+/// All questions refuse the chart so; as the second of two it is input 3.
 fn chart_refused<'a>(c: &mut Checker, what: &str, chart: impl Into<Lent<'a>>, number: u64, place: usize) {
+    let chart = chart.into();
     let told = c.all(chart, &PLAIN);
     told.iter().for_each(|told| c.expect_refused(what, told, (0, number, place as u64)));
+    let [first, second] = c.beside(chart, &E);
+    c.expect_refused(what, &first, (0, number, place as u64));
+    c.expect_refused(what, &second, (3, number, place as u64));
 }
 
 /// Property and short form refuse the sheet so, for chart E.

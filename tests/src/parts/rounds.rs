@@ -3,7 +3,7 @@
 
 use super::boards::NAMES;
 use super::shared;
-use crate::compare::Checker;
+use crate::checker::Checker;
 use crate::inputs::charts;
 use crate::inputs::sheets::{self, Leaves};
 use crate::Job;

@@ -3,7 +3,7 @@
 
 use super::boards::NAMES;
 use super::shared;
-use crate::compare::Checker;
+use crate::checker::Checker;
 use crate::inputs::sheets::Leaves;
 use crate::inputs::{charts, sheets};
 use crate::reference::chart::Chart;

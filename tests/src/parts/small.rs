@@ -1,7 +1,7 @@
 //! All small inputs over a few bytes, good or not.
 
 use super::boards::L;
-use crate::compare::Checker;
+use crate::checker::Checker;
 use crate::Job;
 
 /// Every string of `length` bytes from `letters`.
@@ -24,6 +24,7 @@ fn charts(c: &mut Checker, n: u8) {
             let mut chart = vec![n, 5];
             chart.extend(rest);
             c.matrices(&chart);
+            c.beside(&chart, &L);
         });
     }
 }

@@ -1,6 +1,6 @@
 //! Good inputs, drawn: many small, some middling, a few large.
 
-use crate::compare::Checker;
+use crate::checker::Checker;
 use crate::inputs::{charts, sheets};
 use crate::Job;
 

@@ -1,7 +1,8 @@
-//! Document 01 once more, written from its text alone: charts, sheets, their refusals and the four questions. It is made to be
-//! read beside the document, and not to be fast. The checks hold the proved archive against it.
+//! Document 01 once more, written from its text alone: charts, sheets, their refusals and the four questions; and of document 02
+//! the comparison. It is made to be read beside the documents, and not to be fast. The checks hold the proved archive against it.
 
 pub mod chart;
+pub mod compare;
 pub mod nearness;
 pub mod property;
 pub mod refusal;

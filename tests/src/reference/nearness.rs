@@ -26,7 +26,14 @@ pub fn marks(chart: &[u8], buffer: &mut [u8]) -> Result<Matrix, Refusal> {
     let chart = chart::read(chart)?;
     let n = chart.states();
     long_enough(buffer, n * n)?;
-    let steps = chart.steps_by_source();
+    let (marks, rounds) = marks_of(&chart.steps_by_source())?;
+    buffer[..n * n].copy_from_slice(&marks);
+    Ok(Matrix { states: n as u64, rounds })
+}
+
+/// The marks of all pairs, and the rounds, from the steps of each state.
+pub fn marks_of(steps: &[Vec<Step>]) -> Result<(Vec<u8>, u64), Refusal> {
+    let n = steps.len();
     let mut marks = vec![0; n * n];
     let mut k = 0;
     let (_, rounds) = settle(relation(n, |_, _| true), |r| {
@@ -43,8 +50,7 @@ pub fn marks(chart: &[u8], buffer: &mut [u8]) -> Result<Matrix, Refusal> {
         }
         next
     })?;
-    buffer[..n * n].copy_from_slice(&marks);
-    Ok(Matrix { states: n as u64, rounds })
+    Ok((marks, rounds))
 }
 
 pub fn simulation(chart: &[u8], buffer: &mut [u8]) -> Result<Matrix, Refusal> {

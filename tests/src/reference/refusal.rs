@@ -5,6 +5,8 @@ pub enum Input {
     Chart = 0,
     Sheet = 1,
     BufferOrName = 2,
+    /// The second of two charts.
+    Second = 3,
 }
 
 #[derive(Clone, Copy, PartialEq, Eq, Debug)]

@@ -91,7 +91,7 @@ impl<'a> Checker<'a> {
         self.ask(Question::ShortForm, chart.into(), sheet.into(), name, buffer)
     }
 
-    /// All four questions, with buffers of lengths near those that are needed.
+    /// The four questions about one chart, with buffers of lengths near those that are needed.
     pub fn all<'b, 'c>(&mut self, chart: impl Into<Lent<'b>>, sheet: impl Into<Lent<'c>>) -> [Told; 4] {
         let chart = chart.into();
         let [marks, simulation] = self.matrices(chart);
@@ -121,6 +121,24 @@ impl<'a> Checker<'a> {
         };
         let buffer = self.length_near(sheet.bytes.len() + short_form::added(name));
         [property, self.ask(Question::ShortForm, chart, sheet, name, buffer)]
+    }
+
+    pub fn compare<'b, 'c>(&mut self, first: impl Into<Lent<'b>>, second: impl Into<Lent<'c>>, buffer: usize) -> Told {
+        let before = self.before(Question::Compare, first.into(), buffer);
+        let second = self.room(second.into());
+        self.ask_with(Call { second, ..before })
+    }
+
+    /// Two charts side by side, with a buffer that is long enough for every list, or any.
+    pub fn pair<'b, 'c>(&mut self, first: impl Into<Lent<'b>>, second: impl Into<Lent<'c>>) -> Told {
+        let buffer = self.length_near(67);
+        self.compare(first, second, buffer)
+    }
+
+    /// A chart beside another, as the first of the two and as the second.
+    pub fn beside<'b, 'c>(&mut self, chart: impl Into<Lent<'b>>, other: impl Into<Lent<'c>>) -> [Told; 2] {
+        let (chart, other) = (chart.into(), other.into());
+        [self.pair(chart, other), self.pair(other, chart)]
     }
 
     fn length_near(&mut self, exact: usize) -> usize {
@@ -166,19 +184,23 @@ impl<'a> Checker<'a> {
         room
     }
 
-    fn ask(&mut self, question: Question, chart: Lent, sheet: Lent, name: u64, buffer: usize) -> Told {
+    /// A call with a chart and a buffer; what else it lends is nothing.
+    fn before(&mut self, question: Question, chart: Lent, buffer: usize) -> Call {
         let mut buffer = Room::of(buffer);
         self.random.fill(&mut buffer.bytes);
         buffer.null = buffer.len() == 0 && self.random.once_in(2);
-        let before = Call {
-            question,
-            name,
-            chart: self.room(chart),
-            sheet: self.room(sheet),
-            buffer,
-            numbers: [self.random.word(), self.random.word(), self.random.word()],
-        };
+        let chart = self.room(chart);
+        let numbers = [self.random.word(), self.random.word(), self.random.word()];
+        Call { question, name: 0, chart, sheet: Room::of(0), second: Room::of(0), buffer, numbers }
+    }
 
+    fn ask(&mut self, question: Question, chart: Lent, sheet: Lent, name: u64, buffer: usize) -> Told {
+        let before = self.before(question, chart, buffer);
+        let sheet = self.room(sheet);
+        self.ask_with(Call { name, sheet, ..before })
+    }
+
+    fn ask_with(&mut self, before: Call) -> Told {
         let expected = expected(&before);
         let told = self.call(&before);
         self.tally.count(&expected);

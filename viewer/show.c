@@ -1,0 +1,94 @@
+/* viewer CHART [SHEET [FORM]]: the marks of all pairs and the largest simulation as grids, with the mode codes; with a sheet the
+ * states that satisfy it; with a form, 0 to 3, the states that satisfy that short form of the sheet's formula. What is refused is
+ * shown as "refused INPUT NUMBER PLACE", and a file that cannot be read as "no file". */
+#include "viewer.h"
+
+#include <inttypes.h>
+#include <stdio.h>
+
+/* one byte more than the longest, so that a file with more is refused as the whole would be */
+static uint8_t chart[REBATELION_MAX_CHART + 1];
+static uint8_t sheet[REBATELION_MAX_SHEET + 1];
+static size_t chart_len, sheet_len;
+
+static int refused(uint64_t refusal) {
+    printf("refused %u %u %lu\n", REBATELION_INPUT(refusal), REBATELION_NUMBER(refusal), REBATELION_PLACE(refusal));
+    return 1;
+}
+
+/* A row for each state p and a column for each state q, both with their number and their mode code. */
+static void grid(const uint8_t *cells, unsigned states, int zeros) {
+    printf("       ");
+    for (unsigned q = 0; q < states; q++) printf(" %2u", q);
+    printf("\n       ");
+    for (unsigned q = 0; q < states; q++) printf(" %02x", chart[1 + q]);
+    printf("\n");
+    for (unsigned p = 0; p < states; p++) {
+        printf("  %2u %02x", p, chart[1 + p]);
+        for (unsigned q = 0; q < states; q++) {
+            unsigned cell = cells[p * states + q];
+            if (cell == 0 && !zeros)
+                printf("  .");
+            else
+                printf(" %2u", cell);
+        }
+        printf("\n");
+    }
+}
+
+static int show_marks(void) {
+    static uint8_t cells[REBATELION_MATRIX];
+    uint64_t states, rounds;
+    uint64_t refusal = rebatelion_marks(chart, chart_len, cells, sizeof cells, &states, &rounds);
+    if (refusal != 0) return refused(refusal);
+    printf("states %" PRIu64 "\n\nmarks, rounds %" PRIu64 " (0: equal; else the depth that tells the two apart)\n", states, rounds);
+    grid(cells, (unsigned)states, 1);
+    return 0;
+}
+
+static int show_simulation(void) {
+    static uint8_t cells[REBATELION_MATRIX];
+    uint64_t states, rounds;
+    uint64_t refusal = rebatelion_simulation(chart, chart_len, cells, sizeof cells, &states, &rounds);
+    if (refusal != 0) return refused(refusal);
+    printf("\nsimulation, rounds %" PRIu64 " (1: the column's state simulates the row's)\n", rounds);
+    grid(cells, (unsigned)states, 0);
+    return 0;
+}
+
+static int show_property(void) {
+    uint64_t word, count, rounds;
+    uint64_t refusal = rebatelion_property(chart, chart_len, sheet, sheet_len, &word, &count, &rounds);
+    if (refusal != 0) return refused(refusal);
+    printf("satisfying %" PRIu64 " of %u, rounds %" PRIu64 ", word %" PRIu64 "\n", count, chart[0], rounds, word);
+    for (unsigned s = 0; s < chart[0]; s++)
+        if (word >> s & 1) printf("  %2u %02x\n", s, chart[1 + s]);
+    return 0;
+}
+
+/* The sheet becomes the short form of its formula. */
+static int make_form(uint64_t name) {
+    static uint8_t made[REBATELION_MAX_SHEET];
+    uint64_t written;
+    uint64_t refusal = rebatelion_short_form(chart, chart_len, sheet, sheet_len, name, made, sizeof made, &written);
+    if (refusal != 0) return refused(refusal);
+    printf("short form %" PRIu64 ", %" PRIu64 " bytes:", name, written);
+    for (size_t i = 0; i < written; i++) printf(" %02x", sheet[i] = made[i]);
+    printf("\n");
+    sheet_len = written;
+    return 0;
+}
+
+/* What is asked for, in turn, and the status so far. */
+int show(const char *chart_path, const char *sheet_path, const uint64_t *form) {
+    if (!read_file(chart_path, chart, sizeof chart, &chart_len) ||
+        (sheet_path != NULL && !read_file(sheet_path, sheet, sizeof sheet, &sheet_len))) {
+        printf("no file\n");
+        return 2;
+    }
+    if (show_marks() || show_simulation()) return 1;
+    if (sheet_path == NULL) return 0;
+    printf("\n");
+    if (form != NULL && make_form(*form)) return 1;
+    return show_property();
+}
