@@ -24,6 +24,16 @@ mod raw {
             bn: usize,
             written: &mut u64,
         ) -> u64;
+        pub fn rebatelion_compare(
+            c: *const u8,
+            cn: usize,
+            s: *const u8,
+            sn: usize,
+            b: *mut u8,
+            bn: usize,
+            written: &mut u64,
+            rounds: &mut u64,
+        ) -> u64;
     }
 }
 
@@ -60,4 +70,12 @@ pub fn short_form(chart: &[u8], sheet: &[u8], name: u64, buffer: &mut [u8]) -> O
     // SAFETY: slices of these lengths
     let code = unsafe { raw::rebatelion_short_form(c, chart.len(), s, sheet.len(), name, b, buffer.len(), &mut written) };
     (code == 0).then_some(written)
+}
+
+pub fn compare(first: &[u8], second: &[u8], buffer: &mut [u8]) -> Option<(u64, u64)> {
+    let (c, s, b) = (first.as_ptr(), second.as_ptr(), buffer.as_mut_ptr());
+    let (mut written, mut rounds) = (0, 0);
+    // SAFETY: slices of these lengths
+    let code = unsafe { raw::rebatelion_compare(c, first.len(), s, second.len(), b, buffer.len(), &mut written, &mut rounds) };
+    (code == 0).then_some((written, rounds))
 }

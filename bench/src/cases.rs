@@ -14,6 +14,7 @@ pub const MARKS: Asked = Asked { question: "marks", same: 2.0, words: None };
 pub const SIMULATION: Asked = Asked { question: "simulation", same: 2.0, words: None };
 pub const PROPERTY: Asked = Asked { question: "property", same: 2.0, words: None };
 pub const SHORT_FORM: Asked = Asked { question: "short form", same: 2.0, words: None };
+pub const COMPARE: Asked = Asked { question: "compare", same: 2.0, words: Some(3.0) };
 
 /// Numbers that look random and are the same in every run (splitmix64).
 pub struct Random(pub u64);
@@ -43,7 +44,12 @@ fn chart(n: usize, m: usize, steps: impl IntoIterator<Item = (usize, usize, usiz
 
 /// t steps, drawn.
 pub fn drawn(n: usize, m: usize, t: usize) -> Vec<u8> {
-    let mut r = Random(1);
+    drawn_from(1, n, m, t)
+}
+
+/// Others from another seed.
+pub fn drawn_from(seed: u64, n: usize, m: usize, t: usize) -> Vec<u8> {
+    let mut r = Random(seed);
     let mut steps = BTreeSet::new();
     while steps.len() < t {
         steps.insert((r.below(n), r.below(m), r.below(n)));

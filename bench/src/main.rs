@@ -4,6 +4,7 @@
 
 mod archive;
 mod cases;
+mod compare;
 mod read;
 mod same_shape;
 mod short_form;
@@ -138,6 +139,27 @@ fn safe_path(chart: &[u8], sheet: &[u8]) -> [f64; 3] {
     ])
 }
 
+/// The rounds, and the times.
+fn compare(first: &[u8], second: &[u8]) -> (u64, [f64; 3]) {
+    let calls = [archive::compare, compare::same_shape, compare::words];
+    let mut buffers = [[9; 67]; 3];
+    let answers: Vec<_> = (0..3).map(|i| calls[i](first, second, &mut buffers[i]).expect("two good charts")).collect();
+    assert!(answers.iter().all(|&k| k == answers[0]) && buffers[1] == buffers[0] && buffers[2] == buffers[0], "they differ");
+    let [b0, b1, b2] = &mut buffers;
+    let times = time([
+        &mut || {
+            black_box(calls[0](black_box(first), black_box(second), b0));
+        },
+        &mut || {
+            black_box(calls[1](black_box(first), black_box(second), b1));
+        },
+        &mut || {
+            black_box(calls[2](black_box(first), black_box(second), b2));
+        },
+    ]);
+    (answers[0].1, times)
+}
+
 const MARKS: [Matrix; 3] = [archive::marks, same_shape::marks, words::marks];
 const SIMULATION: [Matrix; 3] = [archive::simulation, same_shape::simulation, words::simulation];
 
@@ -183,6 +205,20 @@ fn sheets(above: &mut Vec<String>) {
     }
 }
 
+/// Two charts of 32 states and 512 triples, or smaller.
+fn pairs(above: &mut Vec<String>) {
+    let (many, few) = (|seed| cases::drawn_from(seed, 32, 32, 512), |seed| cases::drawn_from(seed, 32, 2, 512));
+    for (case, first, second) in [
+        ("E, itself", cases::e(), cases::e()),
+        ("32 states, 32 actions, 512 triples, and others", many(1), many(2)),
+        ("32 states, 32 actions, 512 triples, itself", many(1), many(1)),
+        ("32 states, 2 actions, 512 triples, and others", few(1), few(2)),
+    ] {
+        let (rounds, times) = compare(&first, &second);
+        row(above, &cases::COMPARE, case, &rounds.to_string(), times);
+    }
+}
+
 /// The table of all cases; what is above what is asked.
 fn beside_rust() -> Vec<String> {
     let mut above = Vec::new();
@@ -192,6 +228,7 @@ fn beside_rust() -> Vec<String> {
     println!("|---|---|---|---|---|---|---|---|");
     matrices(&mut above);
     sheets(&mut above);
+    pairs(&mut above);
     above
 }
 

@@ -15,7 +15,7 @@ fn members(mut set: u64) -> impl Iterator<Item = usize> {
 }
 
 /// For each action and state the states that a step leads to, and those that it comes from.
-struct Steps {
+pub struct Steps {
     n: usize,
     m: usize,
     to: Vec<u64>,
@@ -25,15 +25,22 @@ struct Steps {
 
 impl Steps {
     fn new(chart: &[u8], shape: Shape) -> Steps {
-        let (n, m) = (shape.n, shape.m);
-        let mut steps = Steps { n, m, to: vec![0; n * m], from: vec![0; n * m + n] };
+        let mut steps = Steps::none(shape.n, shape.m);
         for triple in chart[shape.at..].chunks_exact(3) {
-            let (source, action, target) = (triple[0] as usize, triple[1] as usize, triple[2] as usize);
-            steps.to[action * n + source] |= 1 << target;
-            steps.from[action * n + target] |= 1 << source;
-            steps.from[m * n + target] |= 1 << source;
+            steps.add(triple[0] as usize, triple[1] as usize, triple[2] as usize);
         }
         steps
+    }
+
+    pub fn none(n: usize, m: usize) -> Steps {
+        Steps { n, m, to: vec![0; n * m], from: vec![0; n * m + n] }
+    }
+
+    pub fn add(&mut self, source: usize, action: usize, target: usize) {
+        let (n, m) = (self.n, self.m);
+        self.to[action * n + source] |= 1 << target;
+        self.from[action * n + target] |= 1 << source;
+        self.from[m * n + target] |= 1 << source;
     }
 
     fn to(&self, a: usize, s: usize) -> u64 {
@@ -60,46 +67,58 @@ impl Steps {
 }
 
 /// Rounds of splitting: two states stay together where they have the same steps into every block. Only the blocks that the last
-/// round made can split any further.
-#[inline(never)]
-pub fn marks(chart: &[u8], buffer: &mut [u8]) -> Option<u64> {
-    let shape = read::chart(chart)?;
-    let n = shape.n;
-    buffer.get_mut(..n * n)?.fill(0);
-    let steps = Steps::new(chart, shape);
-    let all = read::all(n);
+/// round made can split any further, and only states that are not alone in theirs. What falls from a state's block is told, with
+/// the round. Answers the blocks and the rounds.
+pub fn split(steps: &Steps, mut falls: impl FnMut(usize, u64, u8)) -> ([u64; 64], u64) {
+    let all = read::all(steps.n);
     let mut near = [all; 64];
     let mut made = vec![all];
+    let mut open = if steps.n > 1 { all } else { 0 };
     let mut rounds = 0;
-    loop {
+    while open != 0 {
         let before = near;
         for &block in &made {
             for a in 0..steps.m {
                 let able = steps.reaching(a, block);
-                if able != 0 && able != all {
-                    for (p, row) in near[..n].iter_mut().enumerate() {
-                        *row &= if able >> p & 1 == 1 { able } else { !able };
+                if able & open != 0 && able & open != open {
+                    for p in members(open) {
+                        near[p] &= if able >> p & 1 == 1 { able } else { !able };
                     }
                 }
             }
         }
         made.clear();
-        for p in 0..n {
+        for p in members(open) {
             let fallen = before[p] & !near[p];
             if fallen != 0 {
-                for q in members(fallen) {
-                    buffer[p * n + q] = rounds + 1;
-                }
+                falls(p, fallen, rounds + 1);
                 if near[p].trailing_zeros() as usize == p {
                     made.push(near[p]);
                 }
             }
+            if near[p] & (near[p] - 1) == 0 {
+                open &= !(1 << p);
+            }
         }
         if made.is_empty() {
-            return Some(rounds as u64);
+            break;
         }
         rounds += 1;
     }
+    (near, rounds as u64)
+}
+
+#[inline(never)]
+pub fn marks(chart: &[u8], buffer: &mut [u8]) -> Option<u64> {
+    let shape = read::chart(chart)?;
+    let n = shape.n;
+    buffer.get_mut(..n * n)?.fill(0);
+    let (_, rounds) = split(&Steps::new(chart, shape), |p, fallen, k| {
+        for q in members(fallen) {
+            buffer[p * n + q] = k;
+        }
+    });
+    Some(rounds)
 }
 
 /// One round of simulation: `next[p]` becomes what falls from `near[p]`, given what fell in the last round, from the states of
