@@ -8,6 +8,7 @@ use lib.Dec.{ltb}
 use lib.ListN.{length}
 use Rattle.settle.specs.Test.{pick}
 use Rattle.refusal.specs.Refusal.{lentRefusal, ofSecond}
+use Rattle.refusal.specs.declared.Input.the-variants as Input
 use Rattle.refusal.specs.declared.Refusal.{Refusal}
 use Rattle.chart.specs.Chart.{Chart, states, transitions}
 use Rattle.chart.specs.Layout.{Bytes, WellFormed}
@@ -17,7 +18,9 @@ use Rattle.chart.specs.declared.ChartRead.{ChartRead}
 use Rattle.chart.specs.declared.ChartRead.the-variants as Read
 use Rattle.chart.specs.declared.Judged.{Judged}
 use Rattle.chart.specs.declared.Judged.the-variants.{Fine, Bad}
+use Rattle.chart.specs.Fault.{AtFault}
 use Rattle.chart.proofs.Exactly.{read-well-formed}
+use Rattle.chart.proofs.Refused.{refused as chart-refused}
 use Rattle.beside.specs.Beside.{jointCodes, beside, judgeTogether}
 use Rattle.beside.specs.Reading.{two, refused, whereTogether, readSecond, readFirst, readTwo}
 use Rattle.beside.proofs.Formed.{well-formed-exactly}
@@ -99,3 +102,26 @@ two-refused first second r = by-first (readChart first) refl
     by-first : (x : ChartRead) → readChart first ≡ x → readFirst first second x ≡ refused r → Refusing first second r
     by-first (Read.Chart a) e h = by-second (chartIn first a) (readChart second) refl h
     by-first (Read.Refused s) e h = let f : s ≡ r = cc in of-first (e ∙ ap Read.Refused f)
+
+-- a refusal of a chart, the first (input 0) or the second (3), says what is wrong in that chart's own bytes
+abbrev pub OwnFault : List ℕ → List ℕ → Refusal → Type 0
+OwnFault first second r =
+    (r .input ≡ Input.Chart → AtFault first (r .number) (r .place) (r .byte))
+    × (r .input ≡ Input.SecondChart → AtFault second (r .number) (r .place) (r .byte))
+
+-- one of the buffer, or of both, is of neither
+pub lent-own : (first second : List ℕ) (number : ℕ) → OwnFault first second (lentRefusal number)
+lent-own first second number = (λ i. (let z : _≡_ {A = ℕ} 0 1 = cc in absurd (omega arith)), λ i. (let z : _≡_ {A = ℕ} 0 1 = cc in absurd (omega arith)))
+
+pub two-at-fault : (first second : List ℕ) (r : Refusal) → readTwo first second ≡ refused r → OwnFault first second r
+two-at-fault first second r e = go (two-refused first second r e)
+  where
+    go : Refusing first second r → OwnFault first second r
+    go (of-first f) =
+        let p = chart-refused first r f in
+        let i = p .of-chart in
+        (λ _. p .at-fault, λ j. (let z : _≡_ {A = ℕ} 0 1 = cc in absurd (omega arith)))
+    go (of-second s f g) =
+        let p = chart-refused second s f in
+        rw g (λ j. (let z : _≡_ {A = ℕ} 0 1 = cc in absurd (omega arith)), λ _. p .at-fault)
+    go (of-both number some few g) = rw g (lent-own first second number)

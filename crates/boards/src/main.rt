@@ -8,13 +8,16 @@ ghost use Rattle.chart.specs.Reading.{readChart};
 ghost use Rattle.sheet.specs.Reading.{readSheet, sheetRead};
 ghost use Rattle.boards.specs.Outcome.{refusedAs, chartAccepted, chartRefused, sheetAccepted, sheetRefused};
 
-fn refused_as(given: Refusal, input: u8, number: u8, place: usize) -> bool
-    ensures { λ r. ⌜ r ≡ refusedAs input number place given ⌝ }
+fn refused_as(given: Refusal, input: u8, number: u8, place: usize, byte: u8) -> bool
+    ensures { λ r. ⌜ r ≡ refusedAs input number place byte given ⌝ }
 {
     let at_fault = given.input;
     if refusal::input_number(at_fault) == input {
         if given.number == number {
-            return given.place == place;
+            if given.place == place {
+                return given.byte == byte;
+            }
+            return false;
         }
         return false;
     }
@@ -38,12 +41,12 @@ fn chart_accepted(bytes: &[u8], n: usize, m: usize, t: usize) -> bool
     }
 }
 
-fn chart_refused(bytes: &[u8], number: u8, place: usize) -> bool
-    ensures { λ r. ⌜ r ≡ chartRefused number place (readChart (now (bytes .entry))) ⌝ }
+fn chart_refused(bytes: &[u8], number: u8, place: usize, byte: u8) -> bool
+    ensures { λ r. ⌜ r ≡ chartRefused number place byte (readChart (now (bytes .entry))) ⌝ }
 {
     match chart::read_chart(bytes) {
         ChartRead::Chart(_) => false,
-        ChartRead::Refused(r) => refused_as(r, 0, number, place),
+        ChartRead::Refused(r) => refused_as(r, 0, number, place, byte),
     }
 }
 
@@ -66,15 +69,15 @@ fn sheet_refused(bytes: &[u8], m: usize, number: u8, place: usize) -> bool
 {
     match sheet::read_sheet(bytes, m) {
         SheetRead::Sheet(_) => false,
-        SheetRead::Refused(r) => refused_as(r, 1, number, place),
+        SheetRead::Refused(r) => refused_as(r, 1, number, place, 0),
     }
 }
 
 // The counts: n, m and t at their limits and beyond.
 fn chart_counts() {
-    check::expect(chart_refused(b"", 1, 0));
-    check::expect(chart_refused(b"\x00", 2, 0));
-    check::expect(chart_refused(b"\x41", 2, 0));
+    check::expect(chart_refused(b"", 1, 0, 0));
+    check::expect(chart_refused(b"\x00", 2, 0, 0));
+    check::expect(chart_refused(b"\x41", 2, 0, 0));
     check::expect(chart_accepted(
         b"\x40\x61\x61\x61\x61\x61\x61\x61\x61\x61\x61\x61\x61\x61\x61\x61\x61\x61\x61\x61\x61\x61\x61\x61\x61\x61\x61\x61\x61\x61\x61\x61\x61\x61\x61\x61\x61\x61\x61\x61\x61\x61\x61\x61\x61\x61\x61\x61\x61\x61\x61\x61\x61\x61\x61\x61\x61\x61\x61\x61\x61\x61\x61\x61\x61\x00\x00\x00",
         64,
@@ -85,6 +88,7 @@ fn chart_counts() {
         b"\x40\x61\x61\x61\x61\x61\x61\x61\x61\x61\x61\x61\x61\x61\x61\x61\x61\x61\x61\x61\x61\x61\x61\x61\x61\x61\x61\x61\x61\x61\x61\x61\x61\x61\x61\x61\x61\x61\x61\x61\x61\x61\x61\x61\x61\x61\x61\x61\x61\x61\x61\x61\x61\x61\x61\x61\x61\x61\x61\x61\x61\x61\x61\x61",
         1,
         64,
+        0,
     ));
     check::expect(chart_accepted(
         b"\x01\x00\x20\x20\x21\x22\x23\x24\x25\x26\x27\x28\x29\x2a\x2b\x2c\x2d\x2e\x2f\x30\x31\x32\x33\x34\x35\x36\x37\x38\x39\x3a\x3b\x3c\x3d\x3e\x3f\x00\x00",
@@ -92,28 +96,41 @@ fn chart_counts() {
         32,
         0,
     ));
-    check::expect(chart_refused(b"\x01\x00\x21", 3, 2));
-    check::expect(chart_refused(b"\x01\x00\x00\x01\x04", 5, 3));
-    check::expect(chart_refused(b"\x01\x00\x00", 1, 3));
-    check::expect(chart_refused(b"\x01\x00\x00\x01", 1, 4));
+    check::expect(chart_refused(b"\x01\x00\x21", 3, 2, 0));
+    check::expect(chart_refused(b"\x01\x00\x00\x01\x04", 5, 3, 0));
+    check::expect(chart_refused(b"\x01\x00\x00", 1, 3, 0));
+    check::expect(chart_refused(b"\x01\x00\x00\x01", 1, 4, 0));
 }
 
-// The codes and the triples, and what is left over.
+// The codes and the triples, these by their numbers and bytes, and what is left over.
 fn chart_items() {
-    check::expect(chart_refused(b"\x01\x00\x02\x05\x05", 4, 4));
-    check::expect(chart_refused(b"\x01\x00\x02\x05\x04", 4, 4));
-    check::expect(chart_refused(b"\x01\x00\x00\x00\x04", 1, 5));
-    check::expect(chart_refused(b"\x01\x00\x00\x01\x00\x00\x00\x00", 6, 6));
-    check::expect(chart_refused(b"\x01\x00\x01\x07\x01\x00\x01\x00\x00", 6, 6));
-    check::expect(chart_refused(b"\x01\x00\x01\x07\x01\x00\x00\x00\x01", 6, 8));
+    check::expect(chart_refused(b"\x01\x00\x02\x05\x05", 4, 4, 0));
+    check::expect(chart_refused(b"\x01\x00\x02\x05\x04", 4, 4, 0));
+    check::expect(chart_refused(b"\x01\x00\x00\x00\x04", 1, 5, 0));
+    check::expect(chart_refused(b"\x01\x00\x00\x01\x00\x00\x00\x00", 6, 0, 1));
+    check::expect(chart_refused(b"\x01\x00\x01\x07\x01\x00\x01\x00\x00", 6, 0, 0));
+    check::expect(chart_refused(b"\x01\x00\x01\x07\x01\x00\x00\x00\x01", 6, 0, 2));
     check::expect(chart_accepted(b"\x01\x00\x01\x07\x01\x00\x00\x00\x00", 1, 1, 1));
-    check::expect(chart_refused(b"\x01\x00\x01\x07\x02\x00\x00\x00\x00\x00\x00\x00", 7, 9));
+    check::expect(chart_refused(b"\x01\x00\x01\x07\x02\x00\x00\x00\x00\x00\x00\x00", 7, 1, 0));
     check::expect(chart_refused(
         b"\x06\x01\x02\x03\x04\x05\x06\x03\x0a\x14\x1e\x08\x00\x00\x00\x02\x01\x00\x03\x01\x00\x04\x02\x01\x05\x02\x02\x05\x03\x01\x05\x04\x02\x05\x04\x02\x05",
         7,
-        34,
+        7,
+        0,
     ));
-    check::expect(chart_refused(b"\x01\x00\x00\x00\x00\x09", 8, 5));
+    check::expect(chart_refused(b"\x01\x00\x00\x00\x00\x09", 8, 5, 0));
+    check::expect(chart_refused(
+        b"\x02\x00\x00\x01\x07\x02\x00\x00\x00\x00\x01\x00\x02",
+        6,
+        1,
+        2,
+    ));
+    check::expect(chart_refused(
+        b"\x02\x00\x00\x01\x07\x02\x00\x00\x00\x00\x01\x00",
+        1,
+        12,
+        0,
+    ));
 }
 
 // The count of equations, the kind and the count of nodes.
@@ -216,12 +233,12 @@ fn longest_charts() {
     let longer = one_more(bytes);
     print(
         b"a byte after the longest chart refused 8 at 3172",
-        chart_refused(&longer, 8, 3172),
+        chart_refused(&longer, 8, 3172, 0),
     );
     bytes[98] = 1;
     print(
         b"t of 1,025 refused 5 at its first byte",
-        chart_refused(&bytes, 5, 98),
+        chart_refused(&bytes, 5, 98, 0),
     );
 }
 

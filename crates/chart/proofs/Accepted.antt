@@ -89,26 +89,29 @@ transitions-are s n m p sh e =
           },
         )
 
+-- triples that are there, in range and rising are judged fine
+pub steps-fine : (s : List ℕ) (n m p t : ℕ) → p + 3 * t ≤ length s → ((i : ℕ) → i < t → StepIn n m (stepAt s (p + 3 * i)))
+    → ((i : ℕ) → i + 1 < t → Earlier (stepAt s (p + 3 * i)) (stepAt s (p + 3 * (i + 1)))) → (j : ℕ) → j < t → judgeTriple s n m (p + 3 * j) (0 + j) ≡ Fine
+steps-fine s n m p t h steps-in steps-rise j l =
+    rw (
+      lt-leb (length s) (p + 3 * j) (omega arith),
+      lt-ltb _ _ (steps-in j l .source-in),
+      lt-leb (length s) (p + 3 * j + 1) (omega arith),
+      lt-ltb _ _ (steps-in j l .action-in),
+      lt-leb (length s) (p + 3 * j + 2) (omega arith),
+      lt-ltb _ _ (steps-in j l .target-in),
+    ) (rises-triple s p t steps-rise j l)
+
 are-transitions : (s : List ℕ) (n m p t : ℕ) → Transitions s n m p t → readTransitions s n m p ≡ Read.Chart (record { n = n; m = m; t = t })
 unfolding readTransitions
 are-transitions s n m p t T =
     let h : length s ≡ p + 2 + 3 * t = T .whole in
-    let fine : (j : ℕ) → j < t → judgeTriple s n m (p + 2 + 3 * j) (0 + j) ≡ Fine =
-    λ j l. (let k : p + 2 + 3 * j + 2 < length s = omega arith in
-    rw (
-      lt-leb (length s) (p + 2 + 3 * j) (omega arith),
-      lt-ltb _ _ (T .steps-in j l .source-in),
-      lt-leb (length s) (p + 2 + 3 * j + 1) (omega arith),
-      lt-ltb _ _ (T .steps-in j l .action-in),
-      lt-leb (length s) (p + 2 + 3 * j + 2) (omega arith),
-      lt-ltb _ _ (T .steps-in j l .target-in),
-    ) (rises-triple s (p + 2) t (T .steps-rise) j l)) in
     rw (
       lt-leb (length s) p (omega arith),
       lt-leb (length s) (p + 1) (omega arith),
       T .count,
       le-ltb 1024 t (T .few),
-      fine-triples s n m (p + 2) 0 t fine,
+      fine-triples s n m (p + 2) 0 t (steps-fine s n m (p + 2) t (omega arith) (T .steps-in) (T .steps-rise)),
       le-ltb (p + 2 + 3 * t) (length s) (omega arith),
     )
 

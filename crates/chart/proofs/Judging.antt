@@ -9,10 +9,11 @@ use lib.ListN.{length, getD}
 use lib.Dec.{ltb}
 use borrow.Author.Tests.{ltb-true, ltb-false, lt-leb, le-ltb, lt-ltb, ne-eqb}
 use Rattle.settle.specs.Test.{pick}
+use Rattle.refusal.specs.declared.Refusal.{Refusal}
 use Rattle.chart.specs.Chart.{Step}
 use Rattle.chart.specs.Layout.{Earlier}
 use Rattle.chart.specs.Reading.{stepAt, presence, codeOrder, judgeCodes, earlier, tripleOrder, judgeTriple, judgeTriples}
-use Rattle.chart.specs.declared.Judged.the-variants.{Fine}
+use Rattle.chart.specs.declared.Judged.the-variants.{Fine, Bad}
 use Rattle.chart.proofs.Reading.{fine-both, fine-test, present}
 
 -- ---- the order of triples
@@ -53,6 +54,13 @@ is-earlier a b (inr (e, inr (f, h))) =
       le-ltb (b .action) (a .action) (omega arith),
       lt-ltb _ _ h,
     )
+
+pub not-earlier : (a b : Step) → (Earlier a b → ⊥) → earlier a b ≡ false
+not-earlier a b f = go (earlier a b) refl
+  where
+    go : (x : Bool) → earlier a b ≡ x → x ≡ false
+    go true e = absurd (f (earlier-is a b e))
+    go false e = refl
 
 -- ---- the codes and the triples, by their numbers: judged fine together exactly if one by one
 
@@ -124,6 +132,23 @@ fine-triples s n m p i (suc k) f =
     let r : i + suc j ≡ i + 1 + j = omega arith in
     rw (q, r) at (f (suc j) (omega arith))) in
     rw here (fine-triples s n m (p + 3) (i + 1) k below)
+
+-- the first that is not fine is told
+pub first-bad : (s : List ℕ) (n m p i left k : ℕ) (r : Refusal) → k < left → ((j : ℕ) → j < k → judgeTriple s n m (p + 3 * j) (i + j) ≡ Fine)
+    → judgeTriple s n m (p + 3 * k) (i + k) ≡ Bad r → judgeTriples s n m p i left ≡ Bad r
+unfolding judgeTriples
+first-bad s n m p i zero k r h fine bad = absurd (omega arith)
+first-bad s n m p i (suc left) zero r h fine bad =
+    let q : p + 3 * 0 ≡ p = omega arith in
+    let w : i + 0 ≡ i = omega arith in
+    rw (rw (q, w) at bad)
+first-bad s n m p i (suc left) (suc k) r h fine bad =
+    let q : p + 3 * 0 ≡ p = omega arith in
+    let w : i + 0 ≡ i = omega arith in
+    let here = rw (q, w) at (fine 0 (omega arith)) in
+    let after : (j : ℕ) → p + 3 * suc j ≡ p + 3 + 3 * j = λ j. omega arith in
+    let number : (j : ℕ) → i + suc j ≡ i + 1 + j = λ j. omega arith in
+    rw here (first-bad s n m (p + 3) (i + 1) left k r (omega arith) (λ j l. rw (after j, number j) at (fine (suc j) (omega arith))) (rw (after k, number k) at bad))
 
 pub code-rises : (s : List ℕ) (p i : ℕ) → codeOrder s (p + (i + 1)) (0 + (i + 1)) ≡ Fine → getD s (p + i) 0 < getD s (p + (i + 1)) 0
 code-rises s p i e =

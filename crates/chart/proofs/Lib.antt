@@ -6,3 +6,4 @@ pub mod Exactly
 pub mod Refused
 pub mod Continued
 pub mod Beginning
+pub mod Line

@@ -53,13 +53,13 @@ fine-test false r e = let z : _≡_ {A = ℕ} 0 1 = cc in absurd (omega arith)
 pub present : (s : List ℕ) (p : ℕ) → presence s p ≡ Fine → p < length s
 present s p e = go (leb (length s) p) refl e
   where
-    go : (x : Bool) → leb (length s) p ≡ x → pick x (Bad (chartRefusal 1 (length s))) Fine ≡ Fine → p < length s
+    go : (x : Bool) → leb (length s) p ≡ x → pick x (Bad (chartRefusal 1 (length s) 0)) Fine ≡ Fine → p < length s
     go true h e = let z : _≡_ {A = ℕ} 0 1 = cc in absurd (omega arith)
     go false h e = leb-false (length s) p h
 
 -- a byte that was judged fine is there, and below its bound
-pub byte-fine : (s : List ℕ) (p bound : ℕ) → judgeByte s p bound ≡ Fine → (p < length s) × (getD s p 0 < bound)
-byte-fine s p bound e =
+pub byte-fine : (s : List ℕ) (p bound i byte : ℕ) → judgeByte s p bound i byte ≡ Fine → (p < length s) × (getD s p 0 < bound)
+byte-fine s p bound i byte e =
     let a = fine-both (presence s p) _ e in
     (present s p (a .0), ltb-true _ _ (fine-test (ltb (getD s p 0) bound) _ (a .1)))
 
@@ -67,8 +67,8 @@ byte-fine s p bound e =
 pub triple-fine : (s : List ℕ) (n m p i : ℕ) → judgeTriple s n m p i ≡ Fine
     → (p + 2 < length s) × StepIn n m (stepAt s p) × (tripleOrder s p i ≡ Fine)
 triple-fine s n m p i e =
-    let a = fine-both (judgeByte s p n) _ e in
-    let b = fine-both (judgeByte s (p + 1) m) _ (a .1) in
-    let d = fine-both (judgeByte s (p + 2) n) _ (b .1) in
-    let last = byte-fine s (p + 2) n (d .0) in
-    (last .0, record { source-in = byte-fine s p n (a .0) .1; action-in = byte-fine s (p + 1) m (b .0) .1; target-in = last .1 }, d .1)
+    let a = fine-both (judgeByte s p n i 0) _ e in
+    let b = fine-both (judgeByte s (p + 1) m i 1) _ (a .1) in
+    let d = fine-both (judgeByte s (p + 2) n i 2) _ (b .1) in
+    let last = byte-fine s (p + 2) n i 2 (d .0) in
+    (last .0, record { source-in = byte-fine s p n i 0 (a .0) .1; action-in = byte-fine s (p + 1) m i 1 (b .0) .1; target-in = last .1 }, d .1)

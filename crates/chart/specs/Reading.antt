@@ -1,5 +1,5 @@
--- Reading a chart in document 01's order: each byte judged as read, a triple's order after its third byte. The number and the place of every
--- refusal stand here; that a chart is accepted exactly if it follows the layout is the law `accepted-exactly` of proofs/Exactly.antt.
+-- Reading a chart in document 01's order: each byte judged as read, a triple's order after its third byte. The number, the place and the byte of
+-- every refusal stand here; that a chart is accepted exactly if it follows the layout is the law `accepted-exactly` of proofs/Exactly.antt.
 use Prim.Native.Nat.{ℕ, zero, suc, _+_, _-_, _*_}
 use mathlib.Core.Path.{_≡_}
 use mathlib.Core.Bool.{Bool, true, false}
@@ -45,20 +45,20 @@ andThen (Bad r) next = Bad r
 
 -- 1: a needed byte is absent; place: the length
 abbrev pub presence : List ℕ → ℕ → Judged
-presence s p = pick (leb (length s) p) (Bad (chartRefusal 1 (length s))) Fine
+presence s p = pick (leb (length s) p) (Bad (chartRefusal 1 (length s) 0)) Fine
 
 -- 4: action code number i, at p, is not greater than the one before
 abbrev pub codeOrder : List ℕ → ℕ → ℕ → Judged
-codeOrder s p i = pick (eqb i 0) Fine (pick (ltb (getD s (p - 1) 0) (getD s p 0)) Fine (Bad (chartRefusal 4 p)))
+codeOrder s p i = pick (eqb i 0) Fine (pick (ltb (getD s (p - 1) 0) (getD s p 0)) Fine (Bad (chartRefusal 4 p 0)))
 
 -- the codes from number i on, which stands at p, of which there are `left`
 unfoldable pub judgeCodes : List ℕ → ℕ → ℕ → ℕ → Judged
 judgeCodes s p i zero = Fine
 judgeCodes s p i (suc left) = andThen (presence s p) (andThen (codeOrder s p i) (judgeCodes s (p + 1) (i + 1) left))
 
--- 6: a state or action byte out of range
-abbrev pub judgeByte : List ℕ → ℕ → ℕ → Judged
-judgeByte s p bound = andThen (presence s p) (pick (ltb (getD s p 0) bound) Fine (Bad (chartRefusal 6 p)))
+-- 6: a state or action byte of triple number i, which stands at p, is out of range; place: i, and then which of its three bytes it is
+abbrev pub judgeByte : List ℕ → ℕ → ℕ → ℕ → ℕ → Judged
+judgeByte s p bound i byte = andThen (presence s p) (pick (ltb (getD s p 0) bound) Fine (Bad (chartRefusal 6 i byte)))
 
 -- source, then action, then target
 abbrev pub earlier : Step → Step → Bool
@@ -69,13 +69,13 @@ earlier s u =
     (pick (ltb (u .action) (s .action)) false
     (ltb (s .target) (u .target)))))
 
--- 7: triple number i, at p, is not greater than the one before; place: its first byte
+-- 7: triple number i, at p, is not greater than the one before; place: i
 abbrev pub tripleOrder : List ℕ → ℕ → ℕ → Judged
-tripleOrder s p i = pick (eqb i 0) Fine (pick (earlier (stepAt s (p - 3)) (stepAt s p)) Fine (Bad (chartRefusal 7 p)))
+tripleOrder s p i = pick (eqb i 0) Fine (pick (earlier (stepAt s (p - 3)) (stepAt s p)) Fine (Bad (chartRefusal 7 i 0)))
 
 abbrev pub judgeTriple : List ℕ → ℕ → ℕ → ℕ → ℕ → Judged
 judgeTriple s n m p i =
-    andThen (judgeByte s p n) (andThen (judgeByte s (p + 1) m) (andThen (judgeByte s (p + 2) n) (tripleOrder s p i)))
+    andThen (judgeByte s p n i 0) (andThen (judgeByte s (p + 1) m i 1) (andThen (judgeByte s (p + 2) n i 2) (tripleOrder s p i)))
 
 -- the triples from number i on, which stands at p, of which there are `left`
 unfoldable pub judgeTriples : List ℕ → ℕ → ℕ → ℕ → ℕ → ℕ → Judged
@@ -94,9 +94,9 @@ readTransitions s n m p =
     whereFine (presence s p) (
     whereFine (presence s (p + 1)) (
     let t = getD s p 0 + 256 * getD s (p + 1) 0 in
-    pick (ltb 1024 t) (Read.Refused (chartRefusal 5 p)) (
+    pick (ltb 1024 t) (Read.Refused (chartRefusal 5 p 0)) (
     whereFine (judgeTriples s n m (p + 2) 0 t) (
-    pick (ltb (p + 2 + 3 * t) (length s)) (Read.Refused (chartRefusal 8 (p + 2 + 3 * t))) (
+    pick (ltb (p + 2 + 3 * t) (length s)) (Read.Refused (chartRefusal 8 (p + 2 + 3 * t) 0)) (
     Read.Chart (record { n = n; m = m; t = t }))))))
 
 -- the actions, whose count stands at p (3: it is above 32), and what follows
@@ -104,7 +104,7 @@ unfoldable pub readActions : List ℕ → ℕ → ℕ → ChartRead
 readActions s n p =
     whereFine (presence s p) (
     let m = getD s p 0 in
-    pick (ltb 32 m) (Read.Refused (chartRefusal 3 p)) (
+    pick (ltb 32 m) (Read.Refused (chartRefusal 3 p 0)) (
     whereFine (judgeCodes s (p + 1) 0 m) (
     readTransitions s n m (p + 1 + m))))
 
@@ -113,8 +113,8 @@ unfoldable pub readChart : List ℕ → ChartRead
 readChart s =
     whereFine (presence s 0) (
     let n = getD s 0 0 in
-    pick (ltb n 1) (Read.Refused (chartRefusal 2 0)) (
-    pick (ltb 64 n) (Read.Refused (chartRefusal 2 0)) (
+    pick (ltb n 1) (Read.Refused (chartRefusal 2 0 0)) (
+    pick (ltb 64 n) (Read.Refused (chartRefusal 2 0 0)) (
     whereFine (presence s n) (
     readActions s n (1 + n)))))
 

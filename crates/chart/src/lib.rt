@@ -34,7 +34,7 @@ fn code_order(bytes: &[u8], p: usize, i: usize) -> Judged
     if bytes[p - 1] < bytes[p] {
         return Judged::Fine;
     }
-    Judged::Bad(refusal::of_chart(4, p))
+    Judged::Bad(refusal::of_chart(4, p, 0))
 }
 
 // The m action codes from `at` on, in their order.
@@ -45,7 +45,7 @@ fn judge_codes(bytes: &[u8], at: usize, m: usize) -> Judged
     let mut i: usize = 0;
     while i < m {
         if bytes.len() <= p {
-            return Judged::Bad(refusal::of_chart(1, bytes.len()));
+            return Judged::Bad(refusal::of_chart(1, bytes.len(), 0));
         }
         match code_order(bytes, p, i) {
             Judged::Fine => {}
@@ -57,17 +57,17 @@ fn judge_codes(bytes: &[u8], at: usize, m: usize) -> Judged
     Judged::Fine
 }
 
-// The byte at p, which has to be there and below bound.
-fn judge_byte(bytes: &[u8], p: usize, bound: usize) -> Judged
-    ensures { λ r. ⌜ r ≡ judgeByte (now (bytes .entry)) p bound ⌝ }
+// The byte at p, which has to be there and below bound: the triple's number is i, and `byte` says which of its three.
+fn judge_byte(bytes: &[u8], p: usize, bound: usize, i: usize, byte: u8) -> Judged
+    ensures { λ r. ⌜ r ≡ judgeByte (now (bytes .entry)) p bound i byte ⌝ }
 {
     if bytes.len() <= p {
-        return Judged::Bad(refusal::of_chart(1, bytes.len()));
+        return Judged::Bad(refusal::of_chart(1, bytes.len(), 0));
     }
     if (bytes[p] as usize) < bound {
         return Judged::Fine;
     }
-    Judged::Bad(refusal::of_chart(6, p))
+    Judged::Bad(refusal::of_chart(6, i, byte))
 }
 
 // Is the triple at q before the one at p?
@@ -101,7 +101,7 @@ fn triple_order(bytes: &[u8], p: usize, i: usize) -> Judged
     if is_earlier(bytes, p - 3, p) {
         return Judged::Fine;
     }
-    Judged::Bad(refusal::of_chart(7, p))
+    Judged::Bad(refusal::of_chart(7, i, 0))
 }
 
 // Triple number i, which stands at p: each byte as it is read, then the order.
@@ -109,15 +109,15 @@ fn judge_triple(bytes: &[u8], n: usize, m: usize, p: usize, i: usize) -> Judged
     requires { ⌜ 3 * i ≤ p ⌝ }
     ensures { λ r. ⌜ r ≡ judgeTriple (now (bytes .entry)) n m p i ⌝ }
 {
-    match judge_byte(bytes, p, n) {
+    match judge_byte(bytes, p, n, i, 0) {
         Judged::Fine => {}
         Judged::Bad(r) => return Judged::Bad(r),
     }
-    match judge_byte(bytes, p + 1, m) {
+    match judge_byte(bytes, p + 1, m, i, 1) {
         Judged::Fine => {}
         Judged::Bad(r) => return Judged::Bad(r),
     }
-    match judge_byte(bytes, p + 2, n) {
+    match judge_byte(bytes, p + 2, n, i, 2) {
         Judged::Fine => {}
         Judged::Bad(r) => return Judged::Bad(r),
     }
@@ -146,17 +146,17 @@ fn read_transitions(bytes: &[u8], n: usize, m: usize, p: usize) -> ChartRead
     ensures { λ r. ⌜ r ≡ readTransitions (now (bytes .entry)) n m p ⌝ }
 {
     if bytes.len() <= p {
-        return ChartRead::Refused(refusal::of_chart(1, bytes.len()));
+        return ChartRead::Refused(refusal::of_chart(1, bytes.len(), 0));
     }
     let next = p + 1;
     if bytes.len() <= next {
-        return ChartRead::Refused(refusal::of_chart(1, bytes.len()));
+        return ChartRead::Refused(refusal::of_chart(1, bytes.len(), 0));
     }
     let low = bytes[p] as usize;
     let high = bytes[next] as usize;
     let t = low + 256 * high;
     if 1024 < t {
-        return ChartRead::Refused(refusal::of_chart(5, p));
+        return ChartRead::Refused(refusal::of_chart(5, p, 0));
     }
     match judge_triples(bytes, n, m, p + 2, t) {
         Judged::Fine => {}
@@ -164,7 +164,7 @@ fn read_transitions(bytes: &[u8], n: usize, m: usize, p: usize) -> ChartRead
     }
     let end = p + 2 + 3 * t;
     if end < bytes.len() {
-        return ChartRead::Refused(refusal::of_chart(8, end));
+        return ChartRead::Refused(refusal::of_chart(8, end, 0));
     }
     ChartRead::Chart(Shape { n, m, t })
 }
@@ -174,11 +174,11 @@ fn read_actions(bytes: &[u8], n: usize, p: usize) -> ChartRead
     ensures { λ r. ⌜ r ≡ readActions (now (bytes .entry)) n p ⌝ }
 {
     if bytes.len() <= p {
-        return ChartRead::Refused(refusal::of_chart(1, bytes.len()));
+        return ChartRead::Refused(refusal::of_chart(1, bytes.len(), 0));
     }
     let m = bytes[p] as usize;
     if 32 < m {
-        return ChartRead::Refused(refusal::of_chart(3, p));
+        return ChartRead::Refused(refusal::of_chart(3, p, 0));
     }
     match judge_codes(bytes, p + 1, m) {
         Judged::Fine => read_transitions(bytes, n, m, p + 1 + m),
@@ -192,17 +192,17 @@ pub fn read_chart(bytes: &[u8]) -> ChartRead
     ensures { λ r. ⌜ AcceptedExactly (now (bytes .entry)) r ⌝ }
 {
     if bytes.len() <= 0 {
-        return ChartRead::Refused(refusal::of_chart(1, bytes.len()));
+        return ChartRead::Refused(refusal::of_chart(1, bytes.len(), 0));
     }
     let n = bytes[0] as usize;
     if n < 1 {
-        return ChartRead::Refused(refusal::of_chart(2, 0));
+        return ChartRead::Refused(refusal::of_chart(2, 0, 0));
     }
     if 64 < n {
-        return ChartRead::Refused(refusal::of_chart(2, 0));
+        return ChartRead::Refused(refusal::of_chart(2, 0, 0));
     }
     if bytes.len() <= n {
-        return ChartRead::Refused(refusal::of_chart(1, bytes.len()));
+        return ChartRead::Refused(refusal::of_chart(1, bytes.len(), 0));
     }
     read_actions(bytes, n, 1 + n)
 }

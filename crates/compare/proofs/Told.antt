@@ -14,7 +14,7 @@ use Rattle.lent.specs.declared.LentAnswer.{LentAnswer}
 use Rattle.lent.specs.declared.LentAnswer.the-variants.{Written, Refused}
 use Rattle.lent.proofs.Lent.{no-bytes, written-fills, refused-by, refused-leaves}
 use Rattle.beside.specs.Reading.{TwoRead, two, refused, readTwo}
-use Rattle.beside.proofs.Reading.{Refusing, of-first, of-second, of-both, two-refused}
+use Rattle.beside.proofs.Reading.{Refusing, of-first, of-second, of-both, two-refused, OwnFault, lent-own, two-at-fault}
 use Rattle.compare.specs.Comparison.{listed, Comparison}
 use Rattle.compare.specs.Promise.{withRounds, Compares, Answers, ComparePromise}
 use Rattle.compare.specs.declared.Comparison as Struct
@@ -81,6 +81,11 @@ compare-refused first second old new r = by-read (readTwo first second)
     by-read : (t : TwoRead) → Answers t old new (Answer.Refused r) → ((t ≡ refused r) ⊎ (r ≡ lentRefusal 14)) × (new ≡ old)
     by-read (refused s) p = let a = p .0 in let e : s ≡ r = cc in (inl (ap refused e), p .1)
     by-read (two c d) p = let a = by-answer (listed (p .mark) (p .first) (p .second)) (p .rounds) _ (record { answered = refl; bytes = p .bytes }) (p .answered) in (inr (a .0), a .1)
+
+-- of a chart, the first or the second, it tells what is wrong in that chart's own bytes
+pub compare-at-fault : (first second old new : List ℕ) (r : Refusal) → ComparePromise first second old new (Answer.Refused r) → OwnFault first second r
+compare-at-fault first second old new r p =
+    ⊎-elim (two-at-fault first second r) (λ e. rw e (lent-own first second 14)) (compare-refused first second old new r p .0)
 
 -- the reading's own is not of 9 to 17
 pub reading-number : (first second : List ℕ) (r : Refusal) → readTwo first second ≡ refused r → 8 < r .number → 18 ≤ r .number

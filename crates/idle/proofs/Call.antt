@@ -48,10 +48,11 @@ input-back Input.BufferOrName = refl
 input-back Input.SecondChart = refl
 
 refusal-back : (r : Refusal) → Packable r → refusalOf (packed r) ≡ r
-refusal-back r fits = let p = packing r fits in same (ap inputOf (p .input-is) ∙ input-back (r .input)) (p .number-is) (p .place-is)
+refusal-back r fits = let p = packing r fits in same (ap inputOf (p .input-is) ∙ input-back (r .input)) (p .number-is) (p .place-is) (p .byte-is)
   where
-    same : {i j : Input} {n m p q : ℕ} → i ≡ j → n ≡ m → p ≡ q → _≡_ {A = Refusal} (record { input = i; number = n; place = p }) (record { input = j; number = m; place = q })
-    same e f g = cc
+    same : {i j : Input} {n m p q b d : ℕ} → i ≡ j → n ≡ m → p ≡ q → b ≡ d
+        → _≡_ {A = Refusal} (record { input = i; number = n; place = p; byte = b }) (record { input = j; number = m; place = q; byte = d })
+    same e f g h = cc
 
 module _ {A : Type 0} (Promise : A → Type 0) (refused : Refusal → A) (given : A) (code : ℕ) where
   abbrev Read : A

@@ -28,7 +28,7 @@ abbrev pub inputOf : ℕ → Input
 inputOf number = pick (eqb number 0) Input.Chart (pick (eqb number 1) Input.Sheet (pick (eqb number 2) Input.BufferOrName Input.SecondChart))
 
 abbrev pub refusalOf : ℕ → Refusal
-refusalOf code = record { input = inputOf (code / 256 % 256); number = code % 256; place = code / 65536 % 4294967296 }
+refusalOf code = record { input = inputOf (code / 256 % 256); number = code % 256; place = code / 65536 % 4294967296; byte = code / 281474976710656 % 256 }
 
 -- ---- marks and simulation
 

@@ -20,6 +20,7 @@ fn refused(r: Refusal) {
     number(refusal::input_number(input) as u64);
     number(r.number as u64);
     number(r.place as u64);
+    number(r.byte as u64);
     say(b"\n");
 }
 

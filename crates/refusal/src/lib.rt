@@ -1,4 +1,4 @@
-// A refusal of documents 01 and 02: the input at fault, the number and the place.
+// A refusal of documents 01 and 02: the input at fault, the number, the place, and the byte within a triple.
 ghost use mathlib.Core.Path.{_≡_};
 ghost use Rattle.refusal.specs.Refusal.{inputNumber, chartRefusal, sheetRefusal, lentRefusal, ofSecond};
 
@@ -13,6 +13,7 @@ pub struct Refusal {
     pub input: Input,
     pub number: u8,
     pub place: usize,
+    pub byte: u8,
 }
 
 // The document's number of the input at fault.
@@ -27,14 +28,15 @@ pub fn input_number(input: Input) -> u8
     }
 }
 
-// The refusal of a chart.
-pub fn of_chart(number: u8, place: usize) -> Refusal
-    ensures { λ r. ⌜ r ≡ chartRefusal number place ⌝ }
+// The refusal of a chart. The byte is that within a triple where a triple's byte is out of range, else 0.
+pub fn of_chart(number: u8, place: usize, byte: u8) -> Refusal
+    ensures { λ r. ⌜ r ≡ chartRefusal number place byte ⌝ }
 {
     Refusal {
         input: Input::Chart,
         number,
         place,
+        byte,
     }
 }
 
@@ -46,6 +48,7 @@ pub fn of_sheet(number: u8, place: usize) -> Refusal
         input: Input::Sheet,
         number,
         place,
+        byte: 0,
     }
 }
 
@@ -57,10 +60,11 @@ pub fn of_lent(number: u8) -> Refusal
         input: Input::BufferOrName,
         number,
         place: 0,
+        byte: 0,
     }
 }
 
-// A chart's refusal, given of the second chart of two: the number and the place stay.
+// A chart's refusal, given of the second chart of two: the number, the place and the byte stay.
 pub fn of_second(refusal: Refusal) -> Refusal
     ensures { λ r. ⌜ r ≡ ofSecond refusal ⌝ }
 {
@@ -68,5 +72,6 @@ pub fn of_second(refusal: Refusal) -> Refusal
         input: Input::SecondChart,
         number: refusal.number,
         place: refusal.place,
+        byte: refusal.byte,
     }
 }

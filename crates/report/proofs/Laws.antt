@@ -8,8 +8,10 @@ use native.Mathlib.Numerals.{add-one}
 use native.Mathlib.Decide.{le-ind}
 use borrow.Author.Tests.{eq-eqb, ne-eqb}
 use lib.ListN.{length, length-append}
+use Rattle.refusal.specs.Refusal.{inputNumber}
+use Rattle.refusal.specs.declared.Refusal.{Refusal}
 use Rattle.text.specs.Text.{decimal, line}
-use Rattle.report.specs.Text.{statesWord, roundsWord, pairText, rowText, rowsText, chartText}
+use Rattle.report.specs.Text.{statesWord, roundsWord, refusedWord, refusedText, pairText, rowText, rowsText, chartText}
 
 -- a word, a number and a line feed
 pub count-text : (word : List ℕ) (x : ℕ) → (word ++ decimal x) ++ (10 ∷ []) ≡ word ++ line (x ∷ [])
@@ -18,6 +20,14 @@ count-text word x = rw append-assoc
 
 pub count-length : (word : List ℕ) (x : ℕ) → length (word ++ line (x ∷ [])) ≡ length word + length (decimal x) + 1
 count-length word x = ap length (sym (count-text word x)) ∙ simp length-append
+
+-- a word, an input, a space, and the number, the place and the byte
+pub refused-text : (r : Refusal) → ((refusedWord ++ decimal (inputNumber (r .input))) ++ (32 ∷ [])) ++ line (r .number ∷ r .place ∷ r .byte ∷ []) ≡ refusedText r
+unfolding refusedText line
+refused-text r = simp append-assoc
+
+pub refused-length : (r : Refusal) → length (refusedText r) ≡ length refusedWord + length (decimal (inputNumber (r .input))) + 1 + length (line (r .number ∷ r .place ∷ r .byte ∷ []))
+refused-length r = ap length (sym (refused-text r)) ∙ simp length-append
 
 pub pair-equal : (p q mark : ℕ) → mark ≡ 0 → pairText p q mark ≡ []
 unfolding pairText

@@ -14,8 +14,8 @@ use Rattle.refusal.specs.declared.Refusal.{Refusal}
 use Rattle.refusal.specs.declared.Input.the-variants as Input
 use Rattle.text.specs.Text.{decimal, line}
 use Rattle.text.proofs.Laws.{width-small, width-step, length-line}
-use Rattle.report.specs.Text.{statesWord, roundsWord, refusedWord, refusedText, pairText, rowText, rowsText, chartText}
-use Rattle.report.proofs.Laws.{count-length, chart-length}
+use Rattle.report.specs.Text.{statesWord, roundsWord, refusedText, pairText, rowText, rowsText, chartText}
+use Rattle.report.proofs.Laws.{count-length, refused-length, chart-length}
 
 -- ---- numbers
 
@@ -91,15 +91,15 @@ module _ (n : ℕ) (few : n ≤ 64) (mark : ℕ → ℕ → ℕ) (small : (p q :
 
 -- ---- a chart's refusal
 
-pub refused-most : (r : Refusal) → r .input ≡ Input.Chart → r .number ≤ 8 → r .place ≤ 3172 → length (refusedText r) ≤ 17
-unfolding refusedText
-refused-most r e h k =
+pub refused-most : (r : Refusal) → r .input ≡ Input.Chart → r .number ≤ 8 → r .place ≤ 3172 → r .byte < 3 → length (refusedText r) ≤ 19
+refused-most r e h k l =
     let i : inputNumber (r .input) ≡ 0 = ap inputNumber e in
     omega (
       arith,
-      length-append refusedWord (line (inputNumber (r .input) ∷ r .number ∷ r .place ∷ [])),
-      length-line (inputNumber (r .input)) (r .number) (r .place),
+      refused-length r,
+      length-line (r .number) (r .place) (r .byte),
       one-digit (inputNumber (r .input)) (omega arith),
       one-digit (r .number) (omega arith),
       four-digits (r .place) (omega arith),
+      one-digit (r .byte) (omega arith),
     )

@@ -1,4 +1,4 @@
--- The texts that document 01 shows, byte for byte, from the bytes of the charts. Assumes nothing.
+-- The texts that document 01 shows, byte for byte, from the bytes of the charts; that of a refusal as document 02, T-02, has it. Assumes nothing.
 use Prim.Native.Nat.{ℕ}
 use mathlib.Core.Path.{_≡_, refl, sym, subst}
 use mathlib.Core.List.{List, [], _∷_, _++_, List·Memᴰ·head as here, List·Memᴰ·tail as there}
@@ -66,11 +66,11 @@ chartE8 =
     ∷ 0 ∷ 0 ∷ 0
     ∷ []
 
--- refused 0 7 34
+-- refused 0 7 7 0
 abbrev pub lineE8 : List ℕ
-lineE8 = 114 ∷ 101 ∷ 102 ∷ 117 ∷ 115 ∷ 101 ∷ 100 ∷ 32 ∷ 48 ∷ 32 ∷ 55 ∷ 32 ∷ 51 ∷ 52 ∷ 10 ∷ []
+lineE8 = 114 ∷ 101 ∷ 102 ∷ 117 ∷ 115 ∷ 101 ∷ 100 ∷ 32 ∷ 48 ∷ 32 ∷ 55 ∷ 32 ∷ 55 ∷ 32 ∷ 48 ∷ 10 ∷ []
 
-pub printed-of-refusal : refusedText (chartRefusal 7 34) ≡ lineE8
+pub printed-of-refusal : refusedText (chartRefusal 7 7 0) ≡ lineE8
 unfolding refusedText line decimal digits
 printed-of-refusal = refl
 

@@ -53,7 +53,7 @@ report-short chart text r = go (readChart chart) refl r
     go : (x : ChartRead) → readChart chart ≡ x → ReportBy chart x text → length text ≤ 18164
     go (Read.Refused f) e t =
         let p = Refusals.refused chart f e in
-        omega (arith, ap length t, refused-most f (p .of-chart) (p .number-few) (p .place-few))
+        omega (arith, ap length t, refused-most f (p .of-chart) (p .number-few) (p .place-few) (p .byte-few))
     go (Read.Chart sh) e c =
         let small = marks-small chart sh e c in
         omega (arith, ap length (c .text-is), chart-most (sh .n) (accepted chart sh e .states-few) (c .mark) (small .1) (c .rounds) (small .0))

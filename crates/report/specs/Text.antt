@@ -17,9 +17,9 @@ roundsWord = 114 ∷ 111 ∷ 117 ∷ 110 ∷ 100 ∷ 115 ∷ 32 ∷ []
 abbrev pub refusedWord : List ℕ
 refusedWord = 114 ∷ 101 ∷ 102 ∷ 117 ∷ 115 ∷ 101 ∷ 100 ∷ 32 ∷ []
 
--- input, number, place
+-- input, number, place, byte
 unfoldable pub refusedText : Refusal → List ℕ
-refusedText r = refusedWord ++ line (inputNumber (r .input) ∷ r .number ∷ r .place ∷ [])
+refusedText r = refusedWord ++ line (inputNumber (r .input) ∷ r .number ∷ r .place ∷ r .byte ∷ [])
 
 -- a pair and its mark, where that is not 0
 unfoldable pub pairText : ℕ → ℕ → ℕ → List ℕ

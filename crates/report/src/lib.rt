@@ -103,14 +103,10 @@ fn put_refusal(buffer: &mut [u8], r: Refusal) -> usize
     ensures { λ s. ⌜ now (buffer .exit) ≡ placed (now (buffer .entry)) 0 (refusedText r) ⌝ }
 {
     let input = r.input;
-    let at = text::put_bytes(buffer, 0, b"refused ");
-    text::put_line(
-        buffer,
-        at,
-        refusal::input_number(input) as usize,
-        r.number as usize,
-        r.place,
-    )
+    let first = text::put_bytes(buffer, 0, b"refused ");
+    let second = text::put_number(buffer, first, refusal::input_number(input) as usize);
+    let third = text::put_bytes(buffer, second, b" ");
+    text::put_line(buffer, third, r.number as usize, r.place, r.byte as usize)
 }
 
 // The text, in a page that has room for the longest, and its length.

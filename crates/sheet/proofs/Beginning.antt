@@ -1,7 +1,7 @@
 -- What the first bytes of a sheet say of the whole: a refusal other than 1 stands whatever follows, anything after a whole sheet is refused 8,
 -- and 403 bytes decide.
 use Prim.Native.Nat.{ℕ, zero, suc, _+_, _-_, _<_, _≤_}
-use mathlib.Core.Path.{_≡_, refl, ap, ap₂, sym, _∙_}
+use mathlib.Core.Path.{_≡_, refl, ap, sym, _∙_}
 use mathlib.Core.List.{List, _∷_, _++_}
 use mathlib.Core.Logic.{_⊎_, inl, inr}
 use native.Mathlib.Omega.{arith}
@@ -10,7 +10,6 @@ use lib.ListN.{length, getD, take, drop, length-append, take-append-drop, List·
 use lib.Seq.{length-take-le, take-all}
 use lib.Dec.{ltb, eqb}
 use Rattle.refusal.specs.Refusal.{sheetRefusal}
-use Rattle.refusal.specs.declared.Input as Input
 use Rattle.refusal.specs.declared.Refusal.{Refusal}
 use Rattle.chart.proofs.Continued.{same-test, needed-byte, left-over}
 use Rattle.sheet.specs.Formula.{Formula}
@@ -166,7 +165,7 @@ before-the-place s m r e not-8 not-13 = go (length-take-le (r .place) s (w .with
     number-8 {k} d = let y : r ≡ sheetRefusal 8 k = cc in ap (λ (x : Refusal). x .number) y
 
     same : readSheet (take (r .place) s) m ≡ refused r → r .number ≡ 1 → readSheet (take (r .place) s) m ≡ refused (sheetRefusal 1 (r .place))
-    same g one = g ∙ ap₂ (λ (i : Input.Input) (k : ℕ). refused (record { input = i; number = k; place = r .place })) (w .of-sheet) one
+    same g one = g ∙ ap refused (w .of-sheet) ∙ ap (λ (k : ℕ). refused (sheetRefusal k (r .place))) one
 
     go : length (take (r .place) s) ≡ r .place → Fate (take (r .place) s) (readSheet (take (r .place) s) m) (readSheet s m) → readSheet (take (r .place) s) m ≡ refused (sheetRefusal 1 (r .place))
     go q (inl (inl g)) = g ∙ ap (λ (k : ℕ). refused (sheetRefusal 1 k)) q

@@ -11,7 +11,6 @@ use lib.ListN.{length, getD, take, drop, length-append}
 use lib.Seq.{take-at}
 use Rattle.settle.proofs.Test.{by-test}
 use Rattle.refusal.specs.Refusal.{sheetRefusal}
-use Rattle.refusal.specs.declared.Input.the-variants as Input
 use Rattle.refusal.specs.declared.Refusal.{Refusal}
 use Rattle.chart.proofs.Steps.{byte-then}
 use Rattle.sheet.specs.Formula.{Formula, variable, top, bottom, and, or, diamond, box, nodes}
@@ -25,7 +24,7 @@ use Rattle.sheet.specs.declared.Node.the-variants.{Leaf, Two, One, Bad}
 -- a refusal of the sheet, at most so far on, and nearer where a byte is absent: its number is 1, or 8 to 13; and, where what is read lies inside the
 -- sheet, what the number says is wrong there
 pub record FaultBy (s : List ℕ) (m : ℕ) (Inside : Type 0) (far : ℕ) (r : Refusal) : Type 0 where
-  pub of-sheet : r .input ≡ Input.Sheet
+  pub of-sheet : r ≡ sheetRefusal (r .number) (r .place)
   pub number-known : (r .number ≡ 1) ⊎ ((8 ≤ r .number) × (r .number ≤ 13))
   pub place-small : r .place ≤ far
   pub absent-nearer : r .number ≡ 1 → r .place < far

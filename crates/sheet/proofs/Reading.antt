@@ -9,7 +9,6 @@ use lib.Dec.{ltb, eqb}
 use lib.ListN.{length}
 use Rattle.settle.specs.Test.{pick}
 use Rattle.refusal.specs.Refusal.{sheetRefusal}
-use Rattle.refusal.specs.declared.Input.{Input}
 use Rattle.refusal.specs.declared.Refusal.{Refusal}
 use Rattle.sheet.specs.Formula.{Formula}
 use Rattle.sheet.specs.Reading.{nodeAt, Parsed, parsed, wrong, onParsed, operands, parse}
@@ -94,4 +93,4 @@ ending-read s m kind count = by (parse count s m 3 count) refl
         go false false = refl
     by (wrong r) e =
         let F = fault-found count s m 3 count r e in
-        rw (ne-eqb (r .number) 0 (λ z. omega (arith, number-some F))) (ap (λ (i : Input). Read.Refused (record { input = i; number = r .number; place = r .place })) (F .of-sheet))
+        rw (ne-eqb (r .number) 0 (λ z. omega (arith, number-some F))) (ap Read.Refused (F .of-sheet))

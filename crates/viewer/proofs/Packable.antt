@@ -1,6 +1,7 @@
--- Every refusal that a question promises can be packed: its number is from 1 to 20 and its place not past the longest chart. Assumes nothing.
+-- Every refusal that a question promises can be packed: its number is from 1 to 20, its place not past the longest chart, and its byte one
+-- of a triple. Assumes nothing.
 use Prim.Native.Nat.{ℕ, _*_, _≤_, _<_}
-use mathlib.Core.Path.{_≡_, refl, sym, subst⁻¹}
+use mathlib.Core.Path.{_≡_, refl, sym, ap, subst⁻¹}
 use mathlib.Core.Logic.{⊎-elim}
 use mathlib.Core.List.{List}
 use native.Mathlib.Omega.{arith}
@@ -36,17 +37,17 @@ use Rattle.viewer.proofs.Packing.{Packable}
 packable-as : {r s : Refusal} → r ≡ s → Packable s → Packable r
 packable-as e h = subst⁻¹ Packable e h
 
-fits : {r : Refusal} → 1 ≤ r .number → r .number ≤ 20 → r .place ≤ 3172 → Packable r
-fits some few near = record { number-some = some; number-few = few; place-few = near }
+fits : {r : Refusal} → 1 ≤ r .number → r .number ≤ 20 → r .place ≤ 3172 → r .byte ≤ 2 → Packable r
+fits some few near within = record { number-some = some; number-few = few; place-few = near; byte-few = within }
 
 chart-packable : (chart : List ℕ) (r : Refusal) → readChart chart ≡ Read.Refused r → Packable r
-chart-packable chart r e = let p = chart-refused chart r e in fits (p .number-some) (omega (arith, p .number-few)) (p .place-few)
+chart-packable chart r e = let p = chart-refused chart r e in fits (p .number-some) (omega (arith, p .number-few)) (p .place-few) (omega (arith, p .byte-few))
 
 sheet-packable : (bytes : List ℕ) (m : ℕ) (r : Refusal) → readSheet bytes m ≡ refused r → Packable r
-sheet-packable bytes m r e = let p = refusal-small bytes m r e in fits (number-some p) (omega (arith, number-few p)) (omega (arith, p .place-small))
+sheet-packable bytes m r e = let p = refusal-small bytes m r e in fits (number-some p) (omega (arith, number-few p)) (omega (arith, p .place-small)) (omega (arith, ap (λ (x : Refusal). x .byte) (p .of-sheet)))
 
 lent-packable : (number : ℕ) → 1 ≤ number → number ≤ 20 → Packable (lentRefusal number)
-lent-packable number some few = fits some few (omega arith)
+lent-packable number some few = fits some few (omega arith) (omega arith)
 
 -- ---- marks and simulation
 
@@ -88,9 +89,9 @@ refuses-is e = cc
 form-packable : (name : ℕ) (f : Formula) (r : Refusal) → nodes f ≤ 200 → outcomeOf (formOf name f) ≡ refuses r → Packable r
 form-packable name f r few =
     form-cases name f (λ (w : Form). outcomeOf w ≡ refuses r → Packable r)
-    (λ e. packable-as (refuses-is e) (fits (omega arith) (omega arith) (omega (arith, before-within f, bytes-few f))))
+    (λ e. packable-as (refuses-is e) (fits (omega arith) (omega arith) (omega (arith, before-within f, bytes-few f)) (omega arith)))
     (λ e. packable-as (refuses-is e) (lent-packable 17 (omega arith) (omega arith)))
-    (λ e. packable-as (refuses-is e) (fits (omega arith) (omega arith) (omega arith)))
+    (λ e. packable-as (refuses-is e) (fits (omega arith) (omega arith) (omega arith) (omega arith)))
     (λ h e. no-bytes (sym e))
 
 pub short-form-packable : (chart bytes : List ℕ) (name : ℕ) (old new : List ℕ) (r : Refusal) → ShortFormPromise chart bytes name old new (Lent.Refused r) → Packable r
@@ -111,5 +112,5 @@ compare-packable first second old new r p = ⊎-elim (λ e. by-reading (two-refu
   where
     by-reading : Refusing first second r → Packable r
     by-reading (of-first e) = chart-packable first r e
-    by-reading (of-second s e f) = let q = chart-packable second s e in packable-as f (fits (q .number-some) (q .number-few) (q .place-few))
+    by-reading (of-second s e f) = let q = chart-packable second s e in packable-as f (fits (q .number-some) (q .number-few) (q .place-few) (q .byte-few))
     by-reading (of-both number some few f) = packable-as f (lent-packable number (omega arith) few)

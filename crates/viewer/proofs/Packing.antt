@@ -1,4 +1,4 @@
--- The code of a packed refusal is not 0, and its three parts can be read back. Assumes nothing.
+-- The code of a packed refusal is not 0, and its four parts can be read back. Assumes nothing.
 use Prim.Native.Nat.{_≤_}
 use mathlib.Core.Path.{_≡_}
 use native.Mathlib.Omega.{arith}
@@ -8,11 +8,12 @@ use Rattle.refusal.specs.declared.Input.the-variants as Input
 use Rattle.refusal.specs.declared.Refusal.{Refusal}
 use Rattle.viewer.specs.Packing.{packed, Parts}
 
--- a number of documents 01 and 02, and a place not past the longest chart
+-- a number of documents 01 and 02, a place not past the longest chart, and a byte of a triple
 pub record Packable (r : Refusal) : Type 0 where
   pub number-some : 1 ≤ r .number
   pub number-few : r .number ≤ 20
   pub place-few : r .place ≤ 3172
+  pub byte-few : r .byte ≤ 2
 
 input-few : (i : Input) → inputNumber i ≤ 3
 input-few Input.Chart = omega arith
@@ -29,4 +30,5 @@ module _ (r : Refusal) (fits : Packable r) where
       let i = input-few (r .input) in
       let n = fits .number-few in
       let p = fits .place-few in
-      record { number-is = omega arith; input-is = omega arith; place-is = omega arith }
+      let b = fits .byte-few in
+      record { number-is = omega arith; input-is = omega arith; place-is = omega arith; byte-is = omega arith }

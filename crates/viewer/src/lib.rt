@@ -1,5 +1,5 @@
-// The questions for the C viewer, on byte slices and numbers. Each call answers 0, or the refusal as number | input << 8 | place << 16; the lent
-// numbers and bytes are written only where it answers 0.
+// The questions for the C viewer, on byte slices and numbers. Each call answers 0, or the refusal as number | input << 8 | place << 16
+// | byte << 48; the lent numbers and bytes are written only where it answers 0.
 use compare::CompareAnswer;
 use lent::LentAnswer;
 use property::PropertyAnswer;
@@ -10,15 +10,16 @@ ghost use Prim.Native.Nat.{_≤_};
 ghost use Rattle.viewer.specs.Packing.{packed};
 ghost use Rattle.viewer.specs.Shown.{lent, CompareShown, MarksShown, PropertyShown, ShortFormShown, SimulationShown};
 
-// The refusal in one number. Places are small: at most 3,172 in a chart and 403 in a sheet.
+// The refusal in one number. Its parts are small: a place is at most 3,172 in a chart and 403 in a sheet, a byte at most 2.
 fn pack(refusal: Refusal) -> u64
-    requires { ⌜ refusal .place ≤ 3172 ⌝ }
+    requires { ⌜ (refusal .place ≤ 3172) × (refusal .byte ≤ 2) ⌝ }
     ensures { λ r. ⌜ r ≡ packed refusal ⌝ }
 {
     let input = refusal.input;
     refusal.number as u64
         + 256 * (refusal::input_number(input) as u64)
         + 65536 * (refusal.place as u64)
+        + 281474976710656 * (refusal.byte as u64)
 }
 
 // The marks of all pairs, in the buffer; the number of states and the rounds.

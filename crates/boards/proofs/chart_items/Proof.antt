@@ -103,6 +103,26 @@ expect-requires-10 : tie.Need-expect-requires-10
 unfolding readChart readActions readTransitions judgeCodes judgeTriples
 expect-requires-10 c κs = c .chart-refused9 .ensures
 
+slice-aggregate-chart-refused-10 : tie.Need-slice-aggregate-chart-refused-10
+slice-aggregate-chart-refused-10 c = search needs
+
+chart-refused-requires-10 : tie.Need-chart-refused-requires-10
+chart-refused-requires-10 c κs = search needs
+
+expect-requires-11 : tie.Need-expect-requires-11
+unfolding readChart readActions readTransitions judgeCodes judgeTriples
+expect-requires-11 c κs = c .chart-refused10 .ensures
+
+slice-aggregate-chart-refused-11 : tie.Need-slice-aggregate-chart-refused-11
+slice-aggregate-chart-refused-11 c = search needs
+
+chart-refused-requires-11 : tie.Need-chart-refused-requires-11
+chart-refused-requires-11 c κs = search needs
+
+expect-requires-12 : tie.Need-expect-requires-12
+unfolding readChart readActions readTransitions judgeCodes judgeTriples
+expect-requires-12 c κs = c .chart-refused11 .ensures
+
 returns : tie.Need-returns
 returns c = search needs
 
@@ -140,4 +160,10 @@ chart-items-spec =
     slice-aggregate-chart-refused-9
     chart-refused-requires-9
     expect-requires-10
+    slice-aggregate-chart-refused-10
+    chart-refused-requires-10
+    expect-requires-11
+    slice-aggregate-chart-refused-11
+    chart-refused-requires-11
+    expect-requires-12
     returns)

@@ -18,7 +18,7 @@ returns : tie.Need-returns
 returns c = rw (← c .before .before .before .judge-byte .ensures, c .before .r .given .1)
 
 add-judge-byte : tie.Need-add-judge-byte
-add-judge-byte c = omega (arith, byte-fine (c .before .before .before .before .args .bytes .now) _ _ (sym (c .before .before .judge-byte .ensures) ∙ c .enum-told .given .1))
+add-judge-byte c = omega (arith, byte-fine (c .before .before .before .before .args .bytes .now) _ _ _ _ (sym (c .before .before .judge-byte .ensures) ∙ c .enum-told .given .1))
 
 judge-byte-requires-2 : tie.Need-judge-byte-requires-2
 judge-byte-requires-2 c κs = search needs
@@ -38,7 +38,7 @@ returns-2 c = rw (
 )
 
 add-judge-byte-2 : tie.Need-add-judge-byte-2
-add-judge-byte-2 c = omega (arith, byte-fine (c .before .before .before .before .before .before .before .args .bytes .now) _ _ (sym (c .before .before .judge-byte2 .ensures) ∙ c .enum-told2 .given .1))
+add-judge-byte-2 c = omega (arith, byte-fine (c .before .before .before .before .before .before .before .args .bytes .now) _ _ _ _ (sym (c .before .before .judge-byte2 .ensures) ∙ c .enum-told2 .given .1))
 
 judge-byte-requires-3 : tie.Need-judge-byte-requires-3
 judge-byte-requires-3 c κs = search needs
@@ -60,7 +60,7 @@ returns-3 c = rw (
 )
 
 triple-order-requires : tie.Need-triple-order-requires
-triple-order-requires c κs = omega (arith, byte-fine (c .before .before .before .before .before .before .before .before .before .before .args .bytes .now) _ _ (sym (c .before .before .judge-byte3 .ensures) ∙ c .enum-told3 .given .1))
+triple-order-requires c κs = omega (arith, byte-fine (c .before .before .before .before .before .before .before .before .before .before .args .bytes .now) _ _ _ _ (sym (c .before .before .judge-byte3 .ensures) ∙ c .enum-told3 .given .1))
 
 returns-4 : tie.Need-returns-4
 returns-4 c = rw (

@@ -13,7 +13,7 @@ enum-known-answer-2 : tie.Need-enum-known-answer-2
 enum-known-answer-2 c = search needs
 
 pack-requires : tie.Need-pack-requires
-pack-requires c κs = compare-packable _ _ _ _ _ (rw (c .before .answer2 .given .1) at (c .before .before .before .before .before .compare .ensures)) .place-few
+pack-requires c κs = let p = compare-packable _ _ _ _ _ (rw (c .before .answer2 .given .1) at (c .before .before .before .before .before .compare .ensures)) in (p .place-few, p .byte-few)
 
 same-length : tie.Need-same-length
 same-length c = search needs

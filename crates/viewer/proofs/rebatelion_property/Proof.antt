@@ -16,7 +16,7 @@ enum-known-answer-2 : tie.Need-enum-known-answer-2
 enum-known-answer-2 c = search needs
 
 pack-requires : tie.Need-pack-requires
-pack-requires c κs = property-packable _ _ _ (rw (c .before .answer2 .given .1) at (c .before .before .before .property .ensures)) .place-few
+pack-requires c κs = let p = property-packable _ _ _ (rw (c .before .answer2 .given .1) at (c .before .before .before .property .ensures)) in (p .place-few, p .byte-few)
 
 returns : tie.Need-returns
 returns c =
