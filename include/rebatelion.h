@@ -22,20 +22,25 @@
  *
  * 0 where the call answered. Else the call refused, and the value holds why:
  *
- *     number | input << 8 | place << 16
+ *     number | input << 8 | place << 16 | byte << 48
  *
  * A refused call has written nothing: every buffer and every number is as it was. The macros below take the value apart.
  *
  * Input: 0 the chart, of two the first; 1 the sheet; 2 the buffer or the name, or two charts together; 3 the second chart.
- * Place: the byte at fault, counted from 0, unless said otherwise.
+ * Place: the byte at fault, counted from 0, unless said otherwise. In 6 and 7, and in no other refusal, it is the number of the
+ * triple at fault, counted from 0; their input is 0 or 3.
+ * Byte: in 6 the byte within that triple: 0 its source, 1 its action, 2 its target. In every other refusal 0.
+ *
+ * In the file, the byte of a 6, and the first byte of a 7's triple, is number 4 + n + m + 3 * place + byte, counted from 0, where
+ * n is the number of states and m that of actions.
  *
  *      1  a needed byte is absent; place: that input's length
  *      2  the chart has no state, or more than 64
  *      3  more than 32 actions
  *      4  an action code not greater than the one before
  *      5  more than 1,024 transitions; place: the first byte of their count
- *      6  a state or an action of a triple out of range
- *      7  a triple not greater than the one before; place: its first byte
+ *      6  a state or an action of a triple out of range; place: the triple's number; byte: that within it
+ *      7  a triple not greater than the one before; place: the triple's number
  *      8  bytes left over; place: the first
  *      9  the sheet's equation count is not 1, or its kind is above 2
  *     10  no node, or more than 200, also of a short form's result; place: 2
@@ -65,6 +70,7 @@ extern "C" {
 #define REBATELION_NUMBER(refusal) ((unsigned)((refusal) & 0xff))
 #define REBATELION_INPUT(refusal) ((unsigned)((refusal) >> 8 & 0xff))
 #define REBATELION_PLACE(refusal) ((unsigned long)((refusal) >> 16 & 0xffffffff))
+#define REBATELION_BYTE(refusal) ((unsigned)((refusal) >> 48 & 0xff))
 
 /* The longest inputs that are accepted, and buffers that are long enough for every answer. */
 #define REBATELION_MAX_STATES 64

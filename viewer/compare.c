@@ -1,5 +1,5 @@
 /* viewer compare OLD NEW: whether the start states of an old unit and of its replacement are partners, and which modes of either
- * have no partner in the other. A refusal is shown as "refused INPUT NUMBER PLACE" and in words. */
+ * have no partner in the other. A refusal is shown as "refused INPUT NUMBER PLACE BYTE" and in words. */
 #include "viewer.h"
 
 #include <inttypes.h>
@@ -30,16 +30,26 @@ static const char *in_words(unsigned number) {
     }
 }
 
+/* Where in its chart the fault is: a triple of it, or else a byte of the file. */
+static void print_place(uint64_t refusal) {
+    if (is_of_triple(refusal))
+        print_triple(refusal);
+    else
+        printf("byte %lu of the file", REBATELION_PLACE(refusal));
+}
+
 static int refused(uint64_t refusal) {
-    unsigned input = REBATELION_INPUT(refusal), number = REBATELION_NUMBER(refusal);
-    unsigned long place = REBATELION_PLACE(refusal);
-    const char *words = in_words(number);
-    printf("refused %u %u %lu", input, number, place);
+    unsigned input = REBATELION_INPUT(refusal);
+    const char *words = in_words(REBATELION_NUMBER(refusal));
+    print_refusal(refusal);
     if (words != NULL) {
-        if (input == 2)
+        if (input == 2) {
             printf(": OLD and NEW together have %s", words);
-        else
-            printf(": in %s, byte %lu: %s", names[input == 3], place, words);
+        } else {
+            printf(": in %s, ", names[input == 3]);
+            print_place(refusal);
+            printf(": %s", words);
+        }
     }
     printf("\n");
     return 1;

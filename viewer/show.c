@@ -1,6 +1,6 @@
 /* viewer CHART [SHEET [FORM]]: the marks of all pairs and the largest simulation as grids, with the mode codes; with a sheet the
  * states that satisfy it; with a form, 0 to 3, the states that satisfy that short form of the sheet's formula. What is refused is
- * shown as "refused INPUT NUMBER PLACE", and a file that cannot be read as "no file". */
+ * shown as "refused INPUT NUMBER PLACE BYTE", a triple's fault in words too, and a file that cannot be read as "no file". */
 #include "viewer.h"
 
 #include <inttypes.h>
@@ -12,7 +12,12 @@ static uint8_t sheet[REBATELION_MAX_SHEET + 1];
 static size_t chart_len, sheet_len;
 
 static int refused(uint64_t refusal) {
-    printf("refused %u %u %lu\n", REBATELION_INPUT(refusal), REBATELION_NUMBER(refusal), REBATELION_PLACE(refusal));
+    print_refusal(refusal);
+    if (is_of_triple(refusal)) {
+        printf(": ");
+        print_triple(refusal);
+    }
+    printf("\n");
     return 1;
 }
 

@@ -16,13 +16,14 @@ static void expect_number(int line, const char *what, uint64_t is, uint64_t expe
 
 #define EXPECT(is, expected) expect_number(__LINE__, #is, (uint64_t)(is), (uint64_t)(expected))
 #define EXPECT_BYTES(is, expected, length) expect_number(__LINE__, #is, memcmp(is, expected, length) == 0, 1)
-#define EXPECT_REFUSED(call, input, number, place)                                                                             \
+#define EXPECT_REFUSED(call, input, number, place, byte)                                                                       \
     do {                                                                                                                       \
         uint64_t refusal = (call);                                                                                             \
         EXPECT(REBATELION_INPUT(refusal), input);                                                                              \
         EXPECT(REBATELION_NUMBER(refusal), number);                                                                            \
         EXPECT(REBATELION_PLACE(refusal), place);                                                                              \
-        EXPECT(refusal, (uint64_t)(number) | (uint64_t)(input) << 8 | (uint64_t)(place) << 16);                                \
+        EXPECT(REBATELION_BYTE(refusal), byte);                                                                                \
+        EXPECT(refusal, (uint64_t)(number) | (uint64_t)(input) << 8 | (uint64_t)(place) << 16 | (uint64_t)(byte) << 48);       \
     } while (0)
 
 static const uint8_t e[] = {6, 1, 2, 3, 4, 5, 6, 3, 10, 20, 30, 7, 0, 0, 0, 2, 1, 0,
@@ -66,19 +67,19 @@ static void matrix(matrix_call *call, const uint8_t of_l[9], uint64_t rounds) {
     EXPECT_BYTES(buffer + 9, before + 9, LENT - 9);
 
     fill();
-    EXPECT_REFUSED(call(l, sizeof l, buffer, 8, &x, &y), 2, 14, 0);
+    EXPECT_REFUSED(call(l, sizeof l, buffer, 8, &x, &y), 2, 14, 0, 0);
     EXPECT_KEPT();
-    EXPECT_REFUSED(call(e, sizeof e, buffer, 35, &x, &y), 2, 14, 0);
+    EXPECT_REFUSED(call(e, sizeof e, buffer, 35, &x, &y), 2, 14, 0, 0);
     EXPECT_KEPT();
-    EXPECT_REFUSED(call(e, sizeof e, NULL, 0, &x, &y), 2, 14, 0);
+    EXPECT_REFUSED(call(e, sizeof e, NULL, 0, &x, &y), 2, 14, 0, 0);
     EXPECT_KEPT();
-    EXPECT_REFUSED(call(NULL, 0, buffer, LENT, &x, &y), 0, 1, 0);
+    EXPECT_REFUSED(call(NULL, 0, buffer, LENT, &x, &y), 0, 1, 0, 0);
     EXPECT_KEPT();
-    EXPECT_REFUSED(call(NULL, 0, NULL, 0, &x, &y), 0, 1, 0);
+    EXPECT_REFUSED(call(NULL, 0, NULL, 0, &x, &y), 0, 1, 0, 0);
     EXPECT_KEPT();
-    EXPECT_REFUSED(call(e, sizeof e - 1, buffer, LENT, &x, &y), 0, 1, 33);
+    EXPECT_REFUSED(call(e, sizeof e - 1, buffer, LENT, &x, &y), 0, 1, 33, 0);
     EXPECT_KEPT();
-    EXPECT_REFUSED(call(e + 1, sizeof e - 1, buffer, LENT, &x, &y), 0, 5, 6);
+    EXPECT_REFUSED(call(e + 1, sizeof e - 1, buffer, LENT, &x, &y), 0, 5, 6, 0);
     EXPECT_KEPT();
 }
 
@@ -110,18 +111,18 @@ static void property(void) {
     EXPECT(z, 1);
 
     fill();
-    EXPECT_REFUSED(rebatelion_property(NULL, 0, e_sheet, sizeof e_sheet, &x, &y, &z), 0, 1, 0);
+    EXPECT_REFUSED(rebatelion_property(NULL, 0, e_sheet, sizeof e_sheet, &x, &y, &z), 0, 1, 0, 0);
     EXPECT_KEPT();
-    EXPECT_REFUSED(rebatelion_property(e, sizeof e, NULL, 0, &x, &y, &z), 1, 1, 0);
+    EXPECT_REFUSED(rebatelion_property(e, sizeof e, NULL, 0, &x, &y, &z), 1, 1, 0, 0);
     EXPECT_KEPT();
-    EXPECT_REFUSED(rebatelion_property(e, sizeof e, kind, sizeof kind, &x, &y, &z), 1, 9, 1);
+    EXPECT_REFUSED(rebatelion_property(e, sizeof e, kind, sizeof kind, &x, &y, &z), 1, 9, 1, 0);
     EXPECT_KEPT();
-    EXPECT_REFUSED(rebatelion_property(e, sizeof e, node, sizeof node, &x, &y, &z), 1, 11, 3);
+    EXPECT_REFUSED(rebatelion_property(e, sizeof e, node, sizeof node, &x, &y, &z), 1, 11, 3, 0);
     EXPECT_KEPT();
-    EXPECT_REFUSED(rebatelion_property(e, sizeof e, open, sizeof open, &x, &y, &z), 1, 13, 4);
+    EXPECT_REFUSED(rebatelion_property(e, sizeof e, open, sizeof open, &x, &y, &z), 1, 13, 4, 0);
     EXPECT_KEPT();
     /* L has one action, and the sheet names three */
-    EXPECT_REFUSED(rebatelion_property(l, sizeof l, e_sheet, sizeof e_sheet, &x, &y, &z), 1, 12, 7);
+    EXPECT_REFUSED(rebatelion_property(l, sizeof l, e_sheet, sizeof e_sheet, &x, &y, &z), 1, 12, 7, 0);
     EXPECT_KEPT();
 
     /* inputs may overlap: the mode codes of this E are a sheet, diamond 0 true; and the whole of it is none */
@@ -133,7 +134,7 @@ static void property(void) {
     EXPECT(y, 2);
     EXPECT(z, 1);
     fill();
-    EXPECT_REFUSED(rebatelion_property(held, sizeof held, held, sizeof held, &x, &y, &z), 1, 9, 0);
+    EXPECT_REFUSED(rebatelion_property(held, sizeof held, held, sizeof held, &x, &y, &z), 1, 9, 0, 0);
     EXPECT_KEPT();
 }
 
@@ -148,17 +149,17 @@ static void short_form(void) {
     EXPECT_BYTES(buffer + sizeof expected, before + sizeof expected, LENT - sizeof expected);
 
     fill();
-    EXPECT_REFUSED(rebatelion_short_form(NULL, 0, f, sizeof f, 1, buffer, LENT, &x), 0, 1, 0);
+    EXPECT_REFUSED(rebatelion_short_form(NULL, 0, f, sizeof f, 1, buffer, LENT, &x), 0, 1, 0, 0);
     EXPECT_KEPT();
-    EXPECT_REFUSED(rebatelion_short_form(e, sizeof e, NULL, 0, 1, buffer, LENT, &x), 1, 1, 0);
+    EXPECT_REFUSED(rebatelion_short_form(e, sizeof e, NULL, 0, 1, buffer, LENT, &x), 1, 1, 0, 0);
     EXPECT_KEPT();
-    EXPECT_REFUSED(rebatelion_short_form(e, sizeof e, variable, sizeof variable, 9, NULL, 0, &x), 1, 16, 3);
+    EXPECT_REFUSED(rebatelion_short_form(e, sizeof e, variable, sizeof variable, 9, NULL, 0, &x), 1, 16, 3, 0);
     EXPECT_KEPT();
-    EXPECT_REFUSED(rebatelion_short_form(e, sizeof e, f, sizeof f, UINT64_MAX, NULL, 0, &x), 2, 17, 0);
+    EXPECT_REFUSED(rebatelion_short_form(e, sizeof e, f, sizeof f, UINT64_MAX, NULL, 0, &x), 2, 17, 0, 0);
     EXPECT_KEPT();
-    EXPECT_REFUSED(rebatelion_short_form(e, sizeof e, f, sizeof f, 1, NULL, 0, &x), 2, 14, 0);
+    EXPECT_REFUSED(rebatelion_short_form(e, sizeof e, f, sizeof f, 1, NULL, 0, &x), 2, 14, 0, 0);
     EXPECT_KEPT();
-    EXPECT_REFUSED(rebatelion_short_form(e, sizeof e, f, sizeof f, 1, buffer, sizeof expected - 1, &x), 2, 14, 0);
+    EXPECT_REFUSED(rebatelion_short_form(e, sizeof e, f, sizeof f, 1, buffer, sizeof expected - 1, &x), 2, 14, 0, 0);
     EXPECT_KEPT();
 }
 
@@ -181,22 +182,68 @@ static void compare(void) {
     EXPECT_BYTES(buffer, ((const uint8_t[]){0, 0, 0}), 3);
 
     fill();
-    EXPECT_REFUSED(rebatelion_compare(NULL, 0, NULL, 0, NULL, 0, &x, &y), 0, 1, 0);
+    EXPECT_REFUSED(rebatelion_compare(NULL, 0, NULL, 0, NULL, 0, &x, &y), 0, 1, 0, 0);
     EXPECT_KEPT();
-    EXPECT_REFUSED(rebatelion_compare(NULL, 0, two, sizeof two, buffer, LENT, &x, &y), 0, 1, 0);
+    EXPECT_REFUSED(rebatelion_compare(NULL, 0, two, sizeof two, buffer, LENT, &x, &y), 0, 1, 0, 0);
     EXPECT_KEPT();
-    EXPECT_REFUSED(rebatelion_compare(one, sizeof one, NULL, 0, buffer, LENT, &x, &y), 3, 1, 0);
+    EXPECT_REFUSED(rebatelion_compare(one, sizeof one, NULL, 0, buffer, LENT, &x, &y), 3, 1, 0, 0);
     EXPECT_KEPT();
-    EXPECT_REFUSED(rebatelion_compare(e, sizeof e - 1, e, sizeof e - 1, buffer, LENT, &x, &y), 0, 1, 33);
+    EXPECT_REFUSED(rebatelion_compare(e, sizeof e - 1, e, sizeof e - 1, buffer, LENT, &x, &y), 0, 1, 33, 0);
     EXPECT_KEPT();
-    EXPECT_REFUSED(rebatelion_compare(l, sizeof l, e, sizeof e - 1, buffer, LENT, &x, &y), 3, 1, 33);
+    EXPECT_REFUSED(rebatelion_compare(l, sizeof l, e, sizeof e - 1, buffer, LENT, &x, &y), 3, 1, 33, 0);
     EXPECT_KEPT();
-    EXPECT_REFUSED(rebatelion_compare(l, sizeof l, e + 1, sizeof e - 1, buffer, LENT, &x, &y), 3, 5, 6);
+    EXPECT_REFUSED(rebatelion_compare(l, sizeof l, e + 1, sizeof e - 1, buffer, LENT, &x, &y), 3, 5, 6, 0);
     EXPECT_KEPT();
-    EXPECT_REFUSED(rebatelion_compare(one, sizeof one, two, sizeof two, NULL, 0, &x, &y), 2, 14, 0);
+    EXPECT_REFUSED(rebatelion_compare(one, sizeof one, two, sizeof two, NULL, 0, &x, &y), 2, 14, 0, 0);
     EXPECT_KEPT();
-    EXPECT_REFUSED(rebatelion_compare(one, sizeof one, two, sizeof two, buffer, sizeof expected - 1, &x, &y), 2, 14, 0);
+    EXPECT_REFUSED(rebatelion_compare(one, sizeof one, two, sizeof two, buffer, sizeof expected - 1, &x, &y), 2, 14, 0, 0);
     EXPECT_KEPT();
+}
+
+/* every call about this chart refuses it so, of two charts also as the second, and leaves everything as it was */
+static void line(const uint8_t *chart, size_t length, unsigned number, unsigned long place, unsigned byte) {
+    const uint8_t f[] = {1, 2, 1, 1};
+    fill();
+    EXPECT_REFUSED(rebatelion_marks(chart, length, buffer, LENT, &x, &y), 0, number, place, byte);
+    EXPECT_KEPT();
+    EXPECT_REFUSED(rebatelion_simulation(chart, length, buffer, LENT, &x, &y), 0, number, place, byte);
+    EXPECT_KEPT();
+    EXPECT_REFUSED(rebatelion_property(chart, length, f, sizeof f, &x, &y, &z), 0, number, place, byte);
+    EXPECT_KEPT();
+    EXPECT_REFUSED(rebatelion_short_form(chart, length, f, sizeof f, 0, buffer, LENT, &x), 0, number, place, byte);
+    EXPECT_KEPT();
+    EXPECT_REFUSED(rebatelion_compare(chart, length, l, sizeof l, buffer, LENT, &x, &y), 0, number, place, byte);
+    EXPECT_KEPT();
+    EXPECT_REFUSED(rebatelion_compare(l, sizeof l, chart, length, buffer, LENT, &x, &y), 3, number, place, byte);
+    EXPECT_KEPT();
+    EXPECT_REFUSED(rebatelion_compare(chart, length, chart, length, buffer, LENT, &x, &y), 0, number, place, byte);
+    EXPECT_KEPT();
+}
+
+/* the same, where one byte of a good chart is changed */
+static void line_changed(uint8_t *chart, size_t length, size_t at, uint8_t to, unsigned number, unsigned long place,
+                         unsigned byte) {
+    uint8_t good = chart[at];
+    chart[at] = to;
+    line(chart, length, number, place, byte);
+    chart[at] = good;
+}
+
+/* faulty triples of E, which start at byte 13: each byte of the first and of the last out of range; two that are not greater than
+ * the one before; each byte of the last absent */
+static void lines(void) {
+    uint8_t held[sizeof e];
+    asked = "lines";
+    memcpy(held, e, sizeof e);
+    for (unsigned triple = 0; triple < 7; triple += 6)
+        for (unsigned byte = 0; byte < 3; byte++) {
+            line_changed(held, sizeof e, 13 + 3 * triple + byte, byte == 1 ? 3 : 6, 6, triple, byte);
+            line_changed(held, sizeof e, 13 + 3 * triple + byte, 255, 6, triple, byte);
+        }
+    /* (1, 0, 3) twice, and (2, 2, 5) after (3, 1, 5) */
+    line_changed(held, sizeof e, 21, 3, 7, 2, 0);
+    line_changed(held, sizeof e, 31, 2, 7, 6, 0);
+    for (size_t length = 31; length < sizeof e; length++) line(held, length, 1, length, 0);
 }
 
 /* the lengths that the header names: accepted, a byte more refused 8, and buffers that are long enough */
@@ -228,10 +275,23 @@ static void longest(void) {
     EXPECT(x, REBATELION_MAX_STATES);
     EXPECT(y, 1);
     fill();
-    EXPECT_REFUSED(rebatelion_marks(longest_chart, REBATELION_MAX_CHART + 1, room, REBATELION_MATRIX, &x, &y), 0, 8, 3172);
+    EXPECT_REFUSED(rebatelion_marks(longest_chart, REBATELION_MAX_CHART + 1, room, REBATELION_MATRIX, &x, &y), 0, 8, 3172, 0);
     EXPECT_KEPT();
-    EXPECT_REFUSED(rebatelion_marks(longest_chart, REBATELION_MAX_CHART, room, REBATELION_MATRIX - 1, &x, &y), 2, 14, 0);
+    EXPECT_REFUSED(rebatelion_marks(longest_chart, REBATELION_MAX_CHART, room, REBATELION_MATRIX - 1, &x, &y), 2, 14, 0, 0);
     EXPECT_KEPT();
+}
+
+/* the first and the last of the longest chart's 1,024 triples, which start at byte 100; before the last stands (31, 30, 0) */
+static void longest_lines(void) {
+    const size_t all = REBATELION_MAX_CHART;
+    asked = "longest chart's lines";
+    for (unsigned byte = 0; byte < 3; byte++) {
+        uint8_t too_large = byte == 1 ? 32 : 64;
+        line_changed(longest_chart, all, 100 + byte, too_large, 6, 0, byte);
+        line_changed(longest_chart, all, 3169 + byte, too_large, 6, 1023, byte);
+        line(longest_chart, 3169 + byte, 1, 3169 + byte, 0);
+    }
+    line_changed(longest_chart, all, 3170, 30, 7, 1023, 0);
 }
 
 static void longest_sheets(void) {
@@ -249,7 +309,7 @@ static void longest_sheets(void) {
     EXPECT(y, 32);
     EXPECT(z, 1);
     fill();
-    EXPECT_REFUSED(rebatelion_property(chart, all, sheet, REBATELION_MAX_SHEET + 1, &x, &y, &z), 1, 8, 402);
+    EXPECT_REFUSED(rebatelion_property(chart, all, sheet, REBATELION_MAX_SHEET + 1, &x, &y, &z), 1, 8, 402, 0);
     EXPECT_KEPT();
     /* the longest form that has 200 nodes: F of 196 diamonds and a leaf */
     sheet[2] = 197;
@@ -282,15 +342,15 @@ static void longest_lists(void) {
     EXPECT(room[34], 32);
     EXPECT(room[66], 31);
     fill();
-    EXPECT_REFUSED(beside(loops, loops, most - 1), 2, 14, 0);
+    EXPECT_REFUSED(beside(loops, loops, most - 1), 2, 14, 0, 0);
     EXPECT_KEPT();
-    EXPECT_REFUSED(beside(loops, more, most), 2, 18, 0);
+    EXPECT_REFUSED(beside(loops, more, most), 2, 18, 0, 0);
     EXPECT_KEPT();
-    EXPECT_REFUSED(beside(codes, loops, most), 2, 19, 0);
+    EXPECT_REFUSED(beside(codes, loops, most), 2, 19, 0, 0);
     EXPECT_KEPT();
     EXPECT(beside(steps, (const int[]){1, 1, 1}, most), 0);
     fill();
-    EXPECT_REFUSED(beside(steps, (const int[]){2, 1, 2}, most), 2, 20, 0);
+    EXPECT_REFUSED(beside(steps, (const int[]){2, 1, 2}, most), 2, 20, 0, 0);
     EXPECT_KEPT();
 }
 
@@ -300,7 +360,9 @@ int main(void) {
     property();
     short_form();
     compare();
+    lines();
     longest();
+    longest_lines();
     longest_sheets();
     longest_lists();
     printf(wrong ? "calls from C FAILED\n" : "calls from C passed\n");

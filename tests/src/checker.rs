@@ -3,6 +3,7 @@
 use crate::archive::{Archive, Call, Question, Room, MARGIN};
 use crate::faults::{self, Fault};
 use crate::inputs::random::Random;
+use crate::lines;
 use crate::outcome::{difference, expected, Outcome};
 use crate::reference::short_form;
 use crate::tally::Tally;
@@ -37,6 +38,9 @@ impl<'a, const N: usize> From<&'a [u8; N]> for Lent<'a> {
     }
 }
 
+/// A refusal as it is printed: input, number, place, byte.
+pub type Refused = (u64, u64, u64, u64);
+
 /// What the archive answered.
 pub struct Told {
     pub code: u64,
@@ -46,11 +50,11 @@ pub struct Told {
 }
 
 impl Told {
-    /// Input, number and place, where it refused.
-    pub fn refusal(&self) -> Option<(u64, u64, u64)> {
+    /// Input, number, place and byte, where it refused.
+    pub fn refusal(&self) -> Option<Refused> {
         match self.code {
             0 => None,
-            code => Some((code >> 8 & 255, code & 255, code >> 16)),
+            code => Some((code >> 8 & 255, code & 255, code >> 16 & 0xffff_ffff, code >> 48)),
         }
     }
 }
@@ -168,8 +172,7 @@ impl<'a> Checker<'a> {
         self.expect(told.code == 0, || format!("{what}: refused {:?}", told.refusal()));
     }
 
-    /// `refusal` is the input, the number and the place.
-    pub fn expect_refused(&mut self, what: &str, told: &Told, refusal: (u64, u64, u64)) {
+    pub fn expect_refused(&mut self, what: &str, told: &Told, refusal: Refused) {
         self.expect(told.refusal() == Some(refusal), || format!("{what}: told {:?}, expected {refusal:?}", told.refusal()));
     }
 
@@ -204,7 +207,7 @@ impl<'a> Checker<'a> {
         let expected = expected(&before);
         let told = self.call(&before);
         self.tally.count(&expected);
-        match difference(&before, &expected, &told) {
+        match difference(&before, &expected, &told).or_else(|| lines::difference(&told)) {
             Some(wrong) => self.expect(false, || wrong),
             None => {
                 faults::try_all(&mut self.tally, self.job, &told, |altered| difference(&before, &expected, altered).is_some())

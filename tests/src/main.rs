@@ -1,8 +1,8 @@
 //! Holds the proved archive against documents 01 and 02, by an independent implementation of them (reference/) on some hundred
 //! thousand inputs a question. The inputs are the same in every run. Exits with 1 where anything differs, where a question had
-//! less than 200,000 inputs, where a refusal that can occur was not met at every place that it can have (table.rs), where
-//! something else that must be reached was not (reach.rs), or where a fault that is put into the archive's answers was not noticed
-//! (faults/).
+//! less than 200,000 inputs, where a refusal that can occur was not met at every place and byte that it can have (table.rs),
+//! where something else that must be reached was not (reach.rs), or where a fault that is put into the archive's answers was not
+//! noticed (faults/).
 //!
 //!     checks               all of it
 //!     checks faults        the same, but what is shown is a line for each fault
@@ -13,6 +13,7 @@ mod checker;
 mod counts;
 mod faults;
 mod inputs;
+mod lines;
 mod outcome;
 mod parts;
 mod reach;

@@ -2,7 +2,7 @@
 //! every byte must agree.
 
 use crate::archive::{Call, Question, MARGIN};
-use crate::counts::{byte, codes_together, Counts};
+use crate::counts::{codes_together, Counts};
 use crate::reference::refusal::Refusal;
 use crate::reference::{compare, nearness, property, short_form};
 use std::ops::Range;
@@ -25,7 +25,12 @@ impl Outcome {
 
     /// The place of a refusal.
     pub fn place(&self) -> usize {
-        (self.code >> 16) as usize
+        (self.code >> 16 & 0xffff_ffff) as usize
+    }
+
+    /// The byte within a triple, which a refusal tells; with whatever else stands above the place.
+    pub fn byte(&self) -> u64 {
+        self.code >> 48
     }
 
     /// The input that a refusal names.
@@ -33,9 +38,18 @@ impl Outcome {
         self.code >> 8 & 255
     }
 
-    /// A byte of the chart, 0 where there is none.
-    pub fn chart_byte(&self, at: usize) -> usize {
-        byte(self.left.chart.part(), at)
+    /// The chart that a refusal names: of two, the second where its input is 3.
+    pub fn refused_chart(&self) -> &[u8] {
+        if self.input() == 3 {
+            self.left.second.part()
+        } else {
+            self.left.chart.part()
+        }
+    }
+
+    /// Of a refusal 6 or 7: where in the file the byte stands, or the triple starts.
+    pub fn line_at(&self) -> usize {
+        Counts::of(self.refused_chart()).first_triple() + 3 * self.place() + self.byte() as usize
     }
 
     /// The counts of the chart, which is the first where there are two.
@@ -164,12 +178,14 @@ fn describe(before: &Call, expected: &Expected, told: &Outcome) -> String {
         before.buffer.len()
     );
     match expected.refused {
-        Some(r) => out += &format!("\n  expected  refused {} {} {} ({})", r.input as u8, r.number, r.place, r.what),
+        Some(r) => out += &format!("\n  expected  refused {} {} {} {} ({})", r.input as u8, r.number, r.place, r.byte, r.what),
         None => out += &format!("\n  expected  {:?}", was.numbers),
     }
     match told.code {
         0 => out += &format!("\n  told      {:?}", is.numbers),
-        code => out += &format!("\n  told      refused {} {} {}", code >> 8 & 255, code & 255, code >> 16),
+        code => {
+            out += &format!("\n  told      refused {} {} {} {}", told.input(), code & 255, told.place(), told.byte());
+        }
     }
     if is.numbers != was.numbers {
         out += &format!("\n  numbers   lent {:?}, expected {:?}, left {:?}", before.numbers, was.numbers, is.numbers);

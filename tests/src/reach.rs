@@ -1,13 +1,17 @@
 //! What must be reached in a run, beside the refusals of src/table.rs: every number of rounds where charts and formulas are as
 //! large as can be, every answer's size and every division of the limits between two charts, and buffers too long by thousands
-//! of bytes.
+//! of bytes; and of faulty triples, for each question, every number and byte that they can have in small charts and in the longest.
 
-use crate::archive::Question::{self, Compare};
+use crate::archive::Question::{self, Compare, Marks, Property, ShortForm, Simulation};
+use crate::counts::{byte as byte_of, Counts};
 use crate::outcome::Outcome;
 use std::ops::RangeInclusive;
 
-/// What is counted, and a number that was reached.
-pub type Value = (&'static str, u64);
+/// A question, and the input that its refusal names.
+type Asked = (Question, u64);
+
+/// What is counted, of which question where that matters, and a number that was reached.
+pub type Value = (&'static str, Option<Asked>, u64);
 
 /// What is counted, the number that an answer or a refusal reaches, if it has one, and all the numbers that must be reached.
 type Row = (&'static str, fn(&Outcome) -> Option<u64>, RangeInclusive<u64>);
@@ -44,6 +48,104 @@ const ROWS: &[Row] = &[
     ),
 ];
 
+/// Of a refused chart, and of every question about it: of two charts as the first and as the second.
+const OF_A_CHART: &[Row] = &[
+    ("6, small charts: count, triple and byte", |o| small(o, 6, |_, line| of_count(line)), 0..=last_of_count()),
+    ("6, small charts: states, actions and byte", |o| small(o, 6, states_and_actions), 0..=47),
+    ("6, no action: states and byte", |o| small(o, 6, without_actions), 0..=7),
+    ("7, small charts: count and triple", |o| small(o, 7, |_, line| of_count_from_1(line)), 0..=last_of_count_from_1()),
+    ("1 within a triple, small charts", |o| small(o, 1, |_, line| of_count(line)), 0..=last_of_count()),
+    ("6, the longest charts: triple and byte", |o| longest(o, 6).map(|(triple, byte)| 3 * triple + byte), 0..=3071),
+    ("7, the longest charts: triple", |o| longest(o, 7).map(|(triple, _)| triple), 1..=1023),
+    ("1 within a triple, the longest charts", |o| longest(o, 1).map(|(triple, byte)| 3 * triple + byte), 0..=3071),
+    ("6, its byte of the file", |o| o.refuses(6).then(|| o.line_at() as u64), 5..=3171),
+    ("7, its triple's first byte of the file", |o| o.refuses(7).then(|| o.line_at() as u64), 9..=3169),
+    ("6, one state: source", |o| value(o, 0), 1..=255),
+    ("6, no action or one: action", |o| value(o, 1), 0..=255),
+    ("6, one state: target", |o| value(o, 2), 1..=255),
+];
+
+const EVERY_QUESTION: &[Option<Asked>] = &[
+    Some((Marks, 0)),
+    Some((Simulation, 0)),
+    Some((Property, 0)),
+    Some((ShortForm, 0)),
+    Some((Compare, 0)),
+    Some((Compare, 3)),
+];
+
+/// So many states, actions and triples a small chart has at the most.
+const SMALL: usize = 4;
+pub const SMALL_TRIPLES: usize = 16;
+
+/// The count of triples, a triple and a byte of it.
+type Line = (u64, u64, u64);
+
+/// The triple and the byte at fault: as they are told; of a 1, the byte that is absent.
+fn line(o: &Outcome, number: u64, counts: Counts) -> Option<(u64, u64)> {
+    match number {
+        1 => {
+            let within = o.refused_chart().len().checked_sub(counts.first_triple())?;
+            Some((within as u64 / 3, within as u64 % 3))
+        }
+        _ => Some((o.place() as u64, o.byte())),
+    }
+}
+
+fn small(o: &Outcome, number: u64, value: fn(Counts, Line) -> Option<u64>) -> Option<u64> {
+    if !o.refuses(number) {
+        return None;
+    }
+    let counts = Counts::of(o.refused_chart());
+    let (triple, byte) = line(o, number, counts)?;
+    let is_small = counts.states <= SMALL && counts.actions <= SMALL && counts.transitions <= SMALL_TRIPLES;
+    is_small.then(|| value(counts, (counts.transitions as u64, triple, byte)))?
+}
+
+/// A number of its own for each byte of each triple of each count.
+fn of_count((count, triple, byte): Line) -> Option<u64> {
+    Some(3 * (count * (count - 1) / 2 + triple) + byte)
+}
+
+/// The last of the numbers above.
+const fn last_of_count() -> u64 {
+    3 * (SMALL_TRIPLES * (SMALL_TRIPLES + 1) / 2) as u64 - 1
+}
+
+/// A number of its own for each triple but the first of each count.
+fn of_count_from_1((count, triple, _): Line) -> Option<u64> {
+    Some((count - 1) * (count - 2) / 2 + triple - 1)
+}
+
+/// The last of the numbers above.
+const fn last_of_count_from_1() -> u64 {
+    (SMALL_TRIPLES * (SMALL_TRIPLES - 1) / 2) as u64 - 1
+}
+
+/// A number of its own for each byte with each number of states, and of actions from 1.
+fn states_and_actions(counts: Counts, (_, _, byte): Line) -> Option<u64> {
+    let actions = counts.actions.checked_sub(1)?;
+    Some(3 * ((counts.states - 1) * SMALL + actions) as u64 + byte)
+}
+
+/// The same without actions, where a target is never read.
+fn without_actions(counts: Counts, (_, _, byte): Line) -> Option<u64> {
+    (counts.actions == 0).then(|| 2 * (counts.states as u64 - 1) + byte)
+}
+
+fn longest(o: &Outcome, number: u64) -> Option<(u64, u64)> {
+    let counts = Counts::of(o.refused_chart());
+    let longest = o.refuses(number) && (counts.states, counts.actions, counts.transitions) == (64, 32, 1024);
+    longest.then(|| line(o, number, counts))?
+}
+
+/// The value out of range at this byte of a triple, of one state and at most one action.
+fn value(o: &Outcome, byte: u64) -> Option<u64> {
+    let counts = Counts::of(o.refused_chart());
+    let wanted = o.refuses(6) && o.byte() == byte && counts.states == 1 && counts.actions <= 1;
+    wanted.then(|| byte_of(o.refused_chart(), o.line_at()) as u64)
+}
+
 fn rounds(o: &Outcome, question: Question, wanted: bool) -> Option<u64> {
     (o.answers(question) && wanted).then(|| o.rounds())
 }
@@ -76,15 +178,22 @@ fn refused_for_one(o: &Outcome, number: u64, together: usize, many: usize, value
 
 /// What an answer or a refusal reaches.
 pub fn by(outcome: &Outcome) -> impl Iterator<Item = Value> + '_ {
-    ROWS.iter().filter_map(|(what, value, _)| value(outcome).map(|value| (*what, value)))
+    let asked = (outcome.left.question, outcome.input());
+    // an input that is no chart has no triples
+    let of_a_chart = if outcome.code != 0 && [0, 3].contains(&asked.1) { OF_A_CHART } else { &[] };
+    let rows = ROWS.iter().map(|row| (row, None)).chain(of_a_chart.iter().map(move |row| (row, Some(asked))));
+    rows.filter_map(|((what, value, _), asked)| value(outcome).map(|value| (*what, asked, value)))
 }
 
 /// All that must be reached.
 pub fn must() -> impl Iterator<Item = Value> {
-    ROWS.iter().flat_map(|(what, _, range)| range.clone().map(|value| (*what, value)))
+    rows().flat_map(|(what, asked, range)| {
+        asked.iter().flat_map(move |&asked| range.clone().map(move |value| (what, asked, value)))
+    })
 }
 
-/// What is counted, and how far it must go.
-pub fn rows() -> impl Iterator<Item = (&'static str, RangeInclusive<u64>)> {
-    ROWS.iter().map(|(what, _, range)| (*what, range.clone()))
+/// What is counted, of which questions, and how far it must go.
+pub fn rows() -> impl Iterator<Item = (&'static str, &'static [Option<Asked>], RangeInclusive<u64>)> {
+    let of_all = ROWS.iter().map(|(what, _, range)| (*what, [None].as_slice(), range.clone()));
+    of_all.chain(OF_A_CHART.iter().map(|(what, _, range)| (*what, EVERY_QUESTION, range.clone())))
 }

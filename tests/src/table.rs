@@ -12,7 +12,8 @@ const LEAST_ASKED: usize = 200_000;
 /// A refusal's number, its first and its last place, and what can stand there.
 type Row = (u8, RangeInclusive<usize>, &'static [&'static str]);
 
-/// Of a chart. Its triples start at byte n + m + 4, which is 5 to 100, and its last byte is 3,171 at the most.
+/// Of a chart. Its triples start at byte n + m + 4, which is 5 to 100, and its last byte is 3,171 at the most. The place of 6 and 7
+/// is the triple's number.
 const OF_A_CHART: &[Row] = &[
     (
         1,
@@ -33,8 +34,8 @@ const OF_A_CHART: &[Row] = &[
     (3, 2..=65, &["action count"]),
     (4, 4..=97, &["equal code", "smaller code"]),
     (5, 3..=98, &["transition count"]),
-    (6, 5..=3171, &["source", "action", "target"]),
-    (7, 9..=3169, &["equal triple", "smaller source", "smaller action", "smaller target"]),
+    (6, 0..=1023, &["source", "action", "target"]),
+    (7, 1..=1023, &["equal triple", "smaller source", "smaller action", "smaller target"]),
     (8, 5..=3172, &["byte left over"]),
 ];
 
@@ -61,6 +62,11 @@ const OF_TWO_CHARTS: &[Row] =
 /// an odd number of them before it, an operand comes after it, and at 400 that would be a node too many.
 fn left_out(number: u8, input: Input, place: usize) -> bool {
     input == Input::Sheet && (number == 8 && place % 2 == 1 || number == 16 && place == 400)
+}
+
+/// The bytes within a triple that a refusal can tell.
+fn bytes(number: u8) -> RangeInclusive<u8> {
+    0..=if number == 6 { 2 } else { 0 }
 }
 
 /// Every refusal that a question can have.
@@ -118,18 +124,19 @@ pub fn show(tally: &Tally) {
         row(&title, refusals(tally, |n, i, w| (n, i, w) == kind));
     }
 
-    println!("\ndifferent places");
-    let refusals: BTreeSet<_> = tally.places.iter().map(|&(_, number, input, _)| (number, input)).collect();
+    println!("\ndifferent places, for 6 with the byte");
+    let refusals: BTreeSet<_> = tally.places.iter().map(|&(_, number, input, _, _)| (number, input)).collect();
     for (number, input) in refusals {
-        let counts =
-            QUESTIONS.map(|q| tally.places.range((q, number, input, 0)..=(q, number, input, usize::MAX)).count() as u64);
+        let from_to = |q| (q, number, input, 0, 0)..=(q, number, input, usize::MAX, u8::MAX);
+        let counts = QUESTIONS.map(|q| tally.places.range(from_to(q)).count() as u64);
         row(&format!("{number:>4}  {input:?}"), counts);
     }
 
     println!("\nreached");
-    for (what, range) in reach::rows() {
-        let reached = tally.reached.range((what, *range.start())..=(what, *range.end())).count();
-        println!("{what:<52}{reached:>10} of {}", range.count());
+    for (what, asked, range) in reach::rows() {
+        let of = |&asked| tally.reached.range((what, asked, *range.start())..=(what, asked, *range.end())).count();
+        let reached: usize = asked.iter().map(of).sum();
+        println!("{what:<52}{reached:>10} of {}", asked.len() * range.count());
     }
 }
 
@@ -144,7 +151,7 @@ pub fn failings(tally: &Tally) -> Vec<String> {
         for (input, (number, range, whats)) in can_occur(question) {
             kinds.extend(whats.iter().map(|&what| (question, *number, input, what)));
             let can = range.clone().filter(|&place| !left_out(*number, input, place));
-            places.extend(can.map(|place| (question, *number, input, place)));
+            places.extend(can.flat_map(|place| bytes(*number).map(move |byte| (question, *number, input, place, byte))));
         }
     }
     let met: BTreeSet<_> = tally.refused.keys().copied().collect();

@@ -16,8 +16,8 @@ pub struct Tally {
     pub answered: BTreeMap<Question, u64>,
     /// By question, number, input and what stood at the place.
     pub refused: BTreeMap<(Question, u8, Input, &'static str), u64>,
-    /// Question, number, input and the place itself.
-    pub places: BTreeSet<(Question, u8, Input, usize)>,
+    /// Question, number, input, and the place itself with the byte within a triple.
+    pub places: BTreeSet<(Question, u8, Input, usize, u8)>,
     /// What was reached, as src/reach.rs lists it.
     pub reached: BTreeSet<reach::Value>,
     /// By name, each fault whose inputs were met.
@@ -42,7 +42,7 @@ impl Tally {
             None => *self.answered.entry(question).or_default() += 1,
             Some(r) => {
                 *self.refused.entry((question, r.number, r.input, r.what)).or_default() += 1;
-                self.places.insert((question, r.number, r.input, r.place));
+                self.places.insert((question, r.number, r.input, r.place, r.byte));
             }
         }
     }

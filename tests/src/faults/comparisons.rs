@@ -21,6 +21,11 @@ fn refused(o: &Outcome, number: u64) -> bool {
     o.left.question == Compare && o.refuses(number)
 }
 
+/// A place beyond byte 3,000, or beyond triple 1,000.
+fn is_far_on(o: &Outcome) -> bool {
+    o.place() > if o.refuses(6) || o.refuses(7) { 1_000 } else { 3_000 }
+}
+
 /// The code of a refusal of the buffer, or of two charts together.
 fn of_both(number: u64) -> u64 {
     number | 2 << 8
@@ -237,15 +242,15 @@ pub const FAULTS: &[Fault] = &[
     },
     Fault {
         name: "compare-input-of-the-second",
-        what: "input 0 for a bad second, only beyond byte 3,000",
-        when: |o| o.left.question == Compare && o.input() == 3 && o.place() > 3_000,
+        what: "input 0 for a bad second, only beyond byte 3,000 or triple 1,000",
+        when: |o| o.left.question == Compare && o.input() == 3 && is_far_on(o),
         alter: |o| o.code -= 3 << 8,
     },
     Fault {
         name: "compare-place-in-both",
-        what: "the place of the second's fault counted on from the first, only for a triple beyond byte 3,000",
-        when: |o| refused(o, 7) && o.input() == 3 && o.place() > 3_000,
-        alter: |o| o.code += (o.left.chart.len() as u64) << 16,
+        what: "the number of the second's triple counted on from the first's, only from 1,000 on",
+        when: |o| refused(o, 7) && o.input() == 3 && o.place() >= 1_000 && o.transitions() > 0,
+        alter: |o| o.code += (o.transitions() as u64) << 16,
     },
     Fault {
         name: "compare-input-of-19",

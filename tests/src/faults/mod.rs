@@ -1,9 +1,10 @@
 //! A test of the tests. Each fault here alters some answers of the archive, only few of them and only a little, as an error
 //! that is rarely run would. Where the inputs meet such an answer, it is altered and goes once more through the check against
-//! the reference, as every answer does. A fault that this does not notice fails the run, and so does one whose answers are
-//! never met.
+//! the reference, as every answer does, and a fault of a triple's number or byte through the one against the file's bytes too. A
+//! fault that these do not notice fails the run, and so does one whose answers are never met.
 
 mod comparisons;
+mod lines;
 mod matrices;
 mod refusals;
 mod sheets;
@@ -23,7 +24,7 @@ pub struct Fault {
 }
 
 pub fn all() -> impl Iterator<Item = &'static Fault> {
-    [matrices::FAULTS, sheets::FAULTS, refusals::FAULTS, comparisons::FAULTS].into_iter().flatten()
+    [matrices::FAULTS, sheets::FAULTS, refusals::FAULTS, lines::FAULTS, comparisons::FAULTS].into_iter().flatten()
 }
 
 pub fn named(name: &str) -> &'static Fault {
@@ -47,14 +48,20 @@ impl Met {
     }
 }
 
-/// Puts each fault that is met for the first time into a right outcome, and lets the check against the reference look at it.
+/// Whether the fault is of a triple's number or byte: then the check against the bytes (src/lines.rs) must notice it too.
+fn is_of_lines(fault: &Fault) -> bool {
+    lines::FAULTS.iter().any(|of_lines| of_lines.name == fault.name)
+}
+
+/// Puts each fault that is met for the first time into a right outcome, and lets the checks look at it.
 pub fn try_all(tally: &mut Tally, by: &'static str, right: &Outcome, notices: impl Fn(&Outcome) -> bool) {
     let after = tally.calls();
     for fault in all().filter(|fault| (fault.when)(right)) {
         tally.met.entry(fault.name).or_insert_with(|| {
             let mut wrong = right.clone();
             (fault.alter)(&mut wrong);
-            Met { noticed: notices(&wrong), after, by }
+            let by_bytes = !is_of_lines(fault) || crate::lines::difference(&wrong).is_some();
+            Met { noticed: notices(&wrong) && by_bytes, after, by }
         });
     }
 }

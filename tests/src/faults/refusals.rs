@@ -2,37 +2,11 @@
 
 use super::Fault;
 use crate::archive::Question::{Marks, Property, ShortForm};
-use crate::outcome::Outcome;
 
 const ONE_PLACE: u64 = 1 << 16;
 const ONE_INPUT: u64 = 1 << 8;
 
-/// Where the triple starts whose byte was refused.
-fn refused_triple(o: &Outcome) -> usize {
-    o.place() - (o.place() - o.counts().first_triple()) % 3
-}
-
-/// 6 for the action or target of a late triple whose source is smaller than that of the one before.
-fn both_6_and_7(o: &Outcome) -> bool {
-    o.refuses(6) && o.place() > 3_000 && {
-        let first = refused_triple(o);
-        o.place() > first && o.chart_byte(first) < o.chart_byte(first - 3)
-    }
-}
-
 pub const FAULTS: &[Fault] = &[
-    Fault {
-        name: "place-of-6",
-        what: "the place of 6, a byte late, only at the third byte of the last of 1,024 triples",
-        when: |o| o.refuses(6) && o.place() == 3171,
-        alter: |o| o.code += ONE_PLACE,
-    },
-    Fault {
-        name: "place-of-7",
-        what: "the place of 7, a byte late, only beyond byte 3,100",
-        when: |o| o.refuses(7) && o.place() > 3_100,
-        alter: |o| o.code += ONE_PLACE,
-    },
     Fault {
         name: "place-of-5",
         what: "the place of 5, the second byte of the count, only for 1,025 transitions",
@@ -46,16 +20,22 @@ pub const FAULTS: &[Fault] = &[
         alter: |o| o.code -= ONE_PLACE,
     },
     Fault {
+        name: "place-of-1",
+        what: "the triple's number as the place of 1, where a triple is absent in part",
+        when: |o| o.refuses(1) && o.input() == 0 && o.place() == 3171,
+        alter: |o| o.code = 1 | 1023 << 16,
+    },
+    Fault {
+        name: "place-of-8",
+        what: "the number of the triples as the place of 8",
+        when: |o| o.refuses(8) && o.input() == 0 && o.transitions() == 16,
+        alter: |o| o.code = 8 | 16 << 16,
+    },
+    Fault {
         name: "place-of-a-null-chart",
         what: "the place of 1 for a chart that is a null pointer",
         when: |o| o.refuses(1) && o.left.chart.null,
         alter: |o| o.code += ONE_PLACE,
-    },
-    Fault {
-        name: "order-of-6-and-7",
-        what: "7 for 6 where one triple has both, a late one",
-        when: both_6_and_7,
-        alter: |o| o.code = 7 | (refused_triple(o) as u64) << 16,
     },
     Fault {
         name: "order-of-13-and-1",
@@ -83,9 +63,9 @@ pub const FAULTS: &[Fault] = &[
     },
     Fault {
         name: "high-bits",
-        what: "bit 48 of the code, where the longest chart lacks its last byte",
+        what: "bit 56 of the code, above the byte within a triple, where the longest chart lacks its last byte",
         when: |o| o.refuses(1) && o.place() == 3171,
-        alter: |o| o.code |= 1 << 48,
+        alter: |o| o.code |= 1 << 56,
     },
     Fault {
         name: "number-on-14",
@@ -107,8 +87,8 @@ pub const FAULTS: &[Fault] = &[
     },
     Fault {
         name: "number-on-7",
-        what: "a lent number written where a triple beyond byte 3,000 is refused with 7",
-        when: |o| o.refuses(7) && o.place() > 3_000,
+        what: "a lent number written where a triple from 1,000 on is refused with 7",
+        when: |o| o.refuses(7) && o.place() >= 1_000,
         alter: |o| o.left.numbers[0] = !o.left.numbers[0],
     },
     Fault {

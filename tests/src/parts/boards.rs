@@ -89,33 +89,36 @@ fn edges(c: &mut Checker) {
     let told = c.simulation(&[1, 0, 0, 0, 0], 1);
     expect_matrix(c, "one state, simulation", told, 1, 0, &[1]);
     let told = c.marks(&[], 4096);
-    c.expect_refused("empty chart", &told, (0, 1, 0));
+    c.expect_refused("empty chart", &told, (0, 1, 0, 0));
 
     let told = c.marks(&counted(64, 0, 0), 4096);
     c.expect_answered("64 states", &told);
     let told = c.marks(&counted(65, 0, 0), 4225);
-    c.expect_refused("65 states", &told, (0, 2, 0));
+    c.expect_refused("65 states", &told, (0, 2, 0, 0));
     let told = c.marks(&counted(1, 32, 0), 1);
     c.expect_answered("32 actions", &told);
     let told = c.marks(&counted(1, 33, 0), 1);
-    c.expect_refused("33 actions", &told, (0, 3, 2));
+    c.expect_refused("33 actions", &told, (0, 3, 2, 0));
     let told = c.marks(&counted(64, 32, 1024), 4096);
     c.expect_answered("1,024 transitions", &told);
     let told = c.marks(&counted(64, 32, 1025), 4096);
-    c.expect_refused("1,025 transitions", &told, (0, 5, 98));
+    c.expect_refused("1,025 transitions", &told, (0, 5, 98, 0));
 
-    let mut twice = E.to_vec();
-    twice[11] = 8;
-    twice.extend([4, 2, 5]);
-    let told = c.marks(&twice, 36);
-    c.expect_refused("the same triple twice", &told, (0, 7, 34));
+    // the same triple twice, and the document's printed line: triple 7 of E
+    for eighth in [[4, 2, 5], [0, 0, 0]] {
+        let mut more = E.to_vec();
+        more[11] = 8;
+        more.extend(eighth);
+        let told = c.marks(&more, 36);
+        c.expect_refused("an eighth triple of E", &told, (0, 7, 7, 0));
+    }
     for (length, enough) in [(36, true), (35, false)] {
         let (marks, simulation) = (c.marks(&E, length), c.simulation(&E, length));
         for told in [marks, simulation] {
             if enough {
                 c.expect_answered("buffer of n * n bytes", &told);
             } else {
-                c.expect_refused("a byte less", &told, (2, 14, 0));
+                c.expect_refused("a byte less", &told, (2, 14, 0, 0));
             }
         }
     }
@@ -133,7 +136,7 @@ fn short_forms(c: &mut Checker) {
         let told = c.short_form(&E, &f(most), name, 402);
         c.expect_answered("short form with the most nodes", &told);
         let told = c.short_form(&E, &f(most + 1), name, 402);
-        c.expect_refused("short form with a node more", &told, (1, 10, 2));
+        c.expect_refused("short form with a node more", &told, (1, 10, 2, 0));
     }
     // written out by hand, for F = diamond 0 true
     let f = [1, 2, 2, 5, 0, 1];
@@ -148,7 +151,7 @@ fn short_forms(c: &mut Checker) {
         let fine = told.code == 0 && told.numbers[0] == length as u64 && told.buffer == written;
         c.expect(fine, || format!("short form {name}: {:?}", told.buffer));
         let told = c.short_form(&E, &f, name, length - 1);
-        c.expect_refused("buffer a byte too short", &told, (2, 14, 0));
+        c.expect_refused("buffer a byte too short", &told, (2, 14, 0, 0));
     }
     // eventually false, on L: only the resting state, by the house form
     let told = c.short_form(&L, &[1, 0, 1, 2], 3, 402);

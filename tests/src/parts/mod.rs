@@ -5,6 +5,7 @@ pub mod comparison;
 pub mod damaged;
 pub mod definitions;
 pub mod forms;
+pub mod lines;
 pub mod order;
 pub mod places;
 pub mod rounds;
@@ -37,6 +38,7 @@ pub fn jobs() -> Vec<Job> {
         rounds::jobs(),
         sizes::jobs(),
         places::jobs(),
+        lines::jobs(),
         damaged::jobs(),
         comparison::jobs(),
         valid::jobs(),

@@ -25,61 +25,92 @@ fn changed(changes: &[(usize, u8)], length: usize) -> Vec<u8> {
     out
 }
 
-/// What, the chart, and the number and the place of its refusal.
-pub type Faulty = (&'static str, Vec<u8>, u64, u64);
+/// What, the chart, and the number, the place and the byte of its refusal.
+pub type Faulty = (&'static str, Vec<u8>, [u64; 3]);
 
 fn before_the_triples() -> Vec<Faulty> {
     vec![
-        ("nothing", vec![], 1, 0),
-        ("no state", vec![0], 2, 0),
-        ("65 states", vec![65], 2, 0),
-        ("255 states", vec![255; 300], 2, 0),
-        ("modes absent", changed(&[], 1), 1, 1),
-        ("a mode absent", changed(&[], 2), 1, 2),
-        ("action count absent", changed(&[], 3), 1, 3),
-        ("33 actions", changed(&[(3, 33)], 4), 3, 3),
-        ("a code absent", changed(&[], 5), 1, 5),
-        ("codes equal", changed(&[(5, 1)], 6), 4, 5),
-        ("codes fall", changed(&[(4, 3)], 14), 4, 5),
-        ("the first code 0", changed(&[(4, 0), (12, 2)], 14), 6, 12),
-        ("count absent", changed(&[], 6), 1, 6),
-        ("count's second byte absent", changed(&[(6, 255)], 7), 1, 7),
-        ("1,025 transitions", changed(&[(6, 1), (7, 4)], 8), 5, 6),
-        ("65,535 transitions", changed(&[(6, 255), (7, 255)], 14), 5, 6),
-        ("codes equal and 1,025 transitions", changed(&[(5, 1), (6, 1), (7, 4)], 14), 4, 5),
+        ("nothing", vec![], [1, 0, 0]),
+        ("no state", vec![0], [2, 0, 0]),
+        ("65 states", vec![65], [2, 0, 0]),
+        ("255 states", vec![255; 300], [2, 0, 0]),
+        ("modes absent", changed(&[], 1), [1, 1, 0]),
+        ("a mode absent", changed(&[], 2), [1, 2, 0]),
+        ("action count absent", changed(&[], 3), [1, 3, 0]),
+        ("33 actions", changed(&[(3, 33)], 4), [3, 3, 0]),
+        ("a code absent", changed(&[], 5), [1, 5, 0]),
+        ("codes equal", changed(&[(5, 1)], 6), [4, 5, 0]),
+        ("codes fall", changed(&[(4, 3)], 14), [4, 5, 0]),
+        ("the first code 0", changed(&[(4, 0), (12, 2)], 14), [6, 1, 1]),
+        ("count absent", changed(&[], 6), [1, 6, 0]),
+        ("count's second byte absent", changed(&[(6, 255)], 7), [1, 7, 0]),
+        ("1,025 transitions", changed(&[(6, 1), (7, 4)], 8), [5, 6, 0]),
+        ("65,535 transitions", changed(&[(6, 255), (7, 255)], 14), [5, 6, 0]),
+        ("codes equal and 1,025 transitions", changed(&[(5, 1), (6, 1), (7, 4)], 14), [4, 5, 0]),
     ]
 }
 
 fn triples() -> Vec<Faulty> {
     vec![
-        ("source absent", changed(&[], 8), 1, 8),
-        ("source out of range", changed(&[(8, 2)], 9), 6, 8),
-        ("action out of range", changed(&[(9, 2)], 10), 6, 9),
-        ("target out of range", changed(&[(10, 2)], 11), 6, 10),
-        ("source and action out of range", changed(&[(8, 2), (9, 2)], 14), 6, 8),
-        ("action and target out of range", changed(&[(9, 255), (10, 255)], 14), 6, 9),
-        ("the same triple", changed(&[(11, 0), (12, 0), (13, 1)], 14), 7, 11),
-        ("smaller by its source", changed(&[(8, 1), (11, 0)], 14), 7, 11),
-        ("smaller by its action", changed(&[(9, 1), (11, 0), (12, 0)], 14), 7, 11),
-        ("smaller by its target", changed(&[(11, 0), (12, 0), (13, 0)], 14), 7, 11),
-        ("smaller, and its target absent", changed(&[(8, 1), (11, 0)], 13), 1, 13),
-        ("smaller, and its target out of range", changed(&[(8, 1), (11, 0), (13, 2)], 14), 6, 13),
-        ("smaller, and a byte left over", changed(&[(8, 1), (11, 0)], 15), 7, 11),
-        ("bytes left over", changed(&[], 16), 8, 14),
-        ("a count too small", changed(&[(6, 1)], 14), 8, 11),
-        ("a count too large", changed(&[(6, 3)], 14), 1, 14),
-        ("no action, one triple", vec![1, 9, 0, 1, 0, 0, 0, 0], 6, 6),
-        ("no action, its source out of range", vec![1, 9, 0, 1, 0, 1, 0, 0], 6, 5),
+        ("source absent", changed(&[], 8), [1, 8, 0]),
+        ("source out of range", changed(&[(8, 2)], 9), [6, 0, 0]),
+        ("action out of range", changed(&[(9, 2)], 10), [6, 0, 1]),
+        ("target out of range", changed(&[(10, 2)], 11), [6, 0, 2]),
+        ("source and action out of range", changed(&[(8, 2), (9, 2)], 14), [6, 0, 0]),
+        ("action and target out of range", changed(&[(9, 255), (10, 255)], 14), [6, 0, 1]),
+        ("the same triple", changed(&[(11, 0), (12, 0), (13, 1)], 14), [7, 1, 0]),
+        ("smaller by its source", changed(&[(8, 1), (11, 0)], 14), [7, 1, 0]),
+        ("smaller by its action", changed(&[(9, 1), (11, 0), (12, 0)], 14), [7, 1, 0]),
+        ("smaller by its target", changed(&[(11, 0), (12, 0), (13, 0)], 14), [7, 1, 0]),
+        ("smaller, and its target absent", changed(&[(8, 1), (11, 0)], 13), [1, 13, 0]),
+        ("smaller, and its target out of range", changed(&[(8, 1), (11, 0), (13, 2)], 14), [6, 1, 2]),
+        ("smaller, and a byte left over", changed(&[(8, 1), (11, 0)], 15), [7, 1, 0]),
+        ("bytes left over", changed(&[], 16), [8, 14, 0]),
+        ("a count too small", changed(&[(6, 1)], 14), [8, 11, 0]),
+        ("a count too large", changed(&[(6, 3)], 14), [1, 14, 0]),
+        ("no action, one triple", vec![1, 9, 0, 1, 0, 0, 0, 0], [6, 0, 1]),
+        ("no action, its source out of range", vec![1, 9, 0, 1, 0, 1, 0, 0], [6, 0, 0]),
+    ]
+}
+
+/// GOOD's states and actions with other triples, and so many bytes of the last cut off.
+fn lines(triples: &[[u8; 3]], cut_off: usize) -> Vec<u8> {
+    let mut out = [&GOOD[..6], &[triples.len() as u8, 0], triples.concat().as_slice()].concat();
+    out.truncate(out.len() - cut_off);
+    out
+}
+
+/// Several faults in the triples, and which of them is told: the first that is read.
+fn several_triples() -> Vec<Faulty> {
+    vec![
+        ("all three bytes out of range", lines(&[[0, 0, 0], [2, 2, 2]], 0), [6, 1, 0]),
+        ("source and target out of range", lines(&[[0, 0, 0], [2, 1, 2]], 0), [6, 1, 0]),
+        ("the second's action and target out of range", lines(&[[0, 0, 0], [1, 2, 2]], 0), [6, 1, 1]),
+        ("out of range, and the next not greater", lines(&[[1, 0, 2], [0, 0, 0]], 0), [6, 0, 2]),
+        ("out of range, and the next too", lines(&[[0, 0, 0], [0, 2, 0], [2, 2, 2]], 0), [6, 1, 1]),
+        ("not greater, and the next out of range", lines(&[[1, 0, 0], [0, 1, 1], [2, 0, 0]], 0), [7, 1, 0]),
+        ("not greater, and the next not either", lines(&[[1, 1, 1], [1, 0, 1], [1, 0, 0]], 0), [7, 1, 0]),
+        ("the last smaller, and its action out of range", lines(&[[0, 0, 0], [1, 1, 1], [0, 2, 0]], 0), [6, 2, 1]),
+        ("the last smaller, and its target out of range", lines(&[[0, 0, 0], [1, 1, 1], [0, 0, 255]], 0), [6, 2, 2]),
+        ("the last smaller", lines(&[[0, 0, 0], [1, 1, 1], [1, 1, 0]], 0), [7, 2, 0]),
+        ("the second's source absent", lines(&[[0, 0, 0], [1, 0, 0]], 3), [1, 11, 0]),
+        ("the second's action absent", lines(&[[0, 0, 0], [1, 0, 0]], 2), [1, 12, 0]),
+        ("the second's target absent", lines(&[[0, 0, 0], [1, 0, 0]], 1), [1, 13, 0]),
+        ("smaller, and its action absent", lines(&[[1, 0, 0], [0, 0, 0]], 2), [1, 12, 0]),
+        ("source out of range, and no action", lines(&[[0, 0, 0], [2, 0, 0]], 2), [6, 1, 0]),
+        ("action out of range, and no target", lines(&[[0, 0, 0], [1, 2, 0]], 1), [6, 1, 1]),
+        ("action out of range, and the next absent", lines(&[[0, 2, 0], [1, 1, 1]], 3), [6, 0, 1]),
+        ("not greater, and the next absent in part", lines(&[[1, 0, 0], [0, 0, 0], [1, 1, 1]], 2), [7, 1, 0]),
     ]
 }
 
 /// Faulty charts.
 pub fn faulty() -> impl Iterator<Item = Faulty> {
-    before_the_triples().into_iter().chain(triples())
+    [before_the_triples(), triples(), several_triples()].into_iter().flatten()
 }
 
 fn charts(c: &mut Checker) {
-    for (what, chart, number, place) in faulty() {
+    for (what, chart, [number, place, byte]) in faulty() {
         for chart in with_more(&chart, number) {
             // with no room for an answer too: the chart comes first; and with a bad sheet
             for buffer in [0, 4096] {
@@ -89,16 +120,16 @@ fn charts(c: &mut Checker) {
                     c.short_form(&chart, &[0], 9, buffer),
                     c.compare(&chart, &[0], buffer),
                 ];
-                told.iter().for_each(|told| c.expect_refused(what, told, (0, number, place)));
+                told.iter().for_each(|told| c.expect_refused(what, told, (0, number, place, byte)));
                 let told = c.compare(&GOOD, &chart, buffer);
-                c.expect_refused(what, &told, (3, number, place));
+                c.expect_refused(what, &told, (3, number, place, byte));
             }
             let told = c.property(&chart, &[0]);
-            c.expect_refused(what, &told, (0, number, place));
+            c.expect_refused(what, &told, (0, number, place, byte));
         }
     }
     let told = c.marks(&GOOD, 3);
-    c.expect_refused("buffer", &told, (2, 14, 0));
+    c.expect_refused("buffer", &told, (2, 14, 0, 0));
 }
 
 fn sheets(c: &mut Checker) {
@@ -135,7 +166,7 @@ fn sheets(c: &mut Checker) {
     for &(what, sheet, number, place) in table {
         for sheet in with_more(sheet, number) {
             let told = [c.property(&E, &sheet), c.short_form(&E, &sheet, 0, 0), c.short_form(&E, &sheet, 9, 402)];
-            told.iter().for_each(|told| c.expect_refused(what, told, (1, number, place)));
+            told.iter().for_each(|told| c.expect_refused(what, told, (1, number, place, 0)));
         }
     }
 }
@@ -167,12 +198,12 @@ fn short_forms(c: &mut Checker) {
     ];
     for (what, sheet, name, buffer, input, number, place) in table {
         let told = c.short_form(&E, sheet, name, buffer);
-        c.expect_refused(what, &told, (input, number, place));
+        c.expect_refused(what, &told, (input, number, place, 0));
     }
     // a name with a higher bit, whatever its lower ones
     for name in (2..64).flat_map(|bit| (0..4).map(move |low| 1 << bit | low)) {
         let told = c.short_form(&E, &plain, name, 402);
-        c.expect_refused("a great name", &told, (2, 17, 0));
+        c.expect_refused("a great name", &told, (2, 17, 0, 0));
     }
 }
 

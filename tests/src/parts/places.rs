@@ -9,24 +9,33 @@ use crate::Job;
 /// F, for any chart.
 const PLAIN: [u8; 4] = [1, 0, 1, 1];
 
-/// All questions refuse the chart so; as the second of two it is input 3.
-fn chart_refused<'a>(c: &mut Checker, what: &str, chart: impl Into<Lent<'a>>, number: u64, place: usize) {
-    let chart = chart.into();
+/// All questions refuse the chart with this number, place and byte; as the second of two it is input 3.
+fn all_refuse(c: &mut Checker, what: &str, chart: Lent, [number, place, byte]: [u64; 3]) {
     let told = c.all(chart, &PLAIN);
-    told.iter().for_each(|told| c.expect_refused(what, told, (0, number, place as u64)));
+    told.iter().for_each(|told| c.expect_refused(what, told, (0, number, place, byte)));
     let [first, second] = c.beside(chart, &E);
-    c.expect_refused(what, &first, (0, number, place as u64));
-    c.expect_refused(what, &second, (3, number, place as u64));
+    c.expect_refused(what, &first, (0, number, place, byte));
+    c.expect_refused(what, &second, (3, number, place, byte));
+}
+
+/// All questions refuse the chart so, at a byte of the file.
+pub fn chart_refused<'a>(c: &mut Checker, what: &str, chart: impl Into<Lent<'a>>, number: u64, place: usize) {
+    all_refuse(c, what, chart.into(), [number, place as u64, 0]);
+}
+
+/// All questions refuse a triple of the chart so, by its number and the byte within it.
+pub fn triple_refused(c: &mut Checker, what: &str, chart: &[u8], number: u64, triple: usize, byte: usize) {
+    all_refuse(c, what, chart.into(), [number, triple as u64, byte as u64]);
 }
 
 /// Property and short form refuse the sheet so, for chart E.
 fn sheet_refused(c: &mut Checker, what: &str, sheet: &[u8], number: u64, place: usize) {
     let told = c.sheets(&E, sheet);
-    told.iter().for_each(|told| c.expect_refused(what, told, (1, number, place as u64)));
+    told.iter().for_each(|told| c.expect_refused(what, told, (1, number, place as u64, 0)));
 }
 
 /// The bytes with others from a place on.
-fn changed(bytes: &[u8], at: usize, to: &[u8]) -> Vec<u8> {
+pub fn changed(bytes: &[u8], at: usize, to: &[u8]) -> Vec<u8> {
     let mut out = bytes.to_vec();
     out[at..at + to.len()].copy_from_slice(to);
     out
@@ -46,14 +55,14 @@ fn heads(c: &mut Checker, n: usize) {
         chart_refused(c, "65,535 transitions", &with(65535, &[]), 5, first - 2);
         chart_refused(c, "no transition and a byte", &with(0, &[0]), 8, first);
         chart_refused(c, "a transition and no byte", &with(1, &[]), 1, first);
-        chart_refused(c, "source out of range", &with(1, &[n as u8, 0, 0]), 6, first);
-        chart_refused(c, "action out of range", &with(1, &[0, m as u8, 0]), 6, first + 1);
+        triple_refused(c, "source out of range", &with(1, &[n as u8, 0, 0]), 6, 0, 0);
+        triple_refused(c, "action out of range", &with(1, &[0, m as u8, 0]), 6, 0, 1);
         if m > 0 {
             let last = [n as u8 - 1, m as u8 - 1, n as u8 - 1];
-            chart_refused(c, "target out of range", &with(1, &[0, 0, n as u8]), 6, first + 2);
-            chart_refused(c, "the first triple twice", &with(2, &[0; 6]), 7, first + 3);
-            chart_refused(c, "the last triple twice", &with(2, &[last, last].concat()), 7, first + 3);
-            chart_refused(c, "the last triple first", &with(2, &[last, [0; 3]].concat()), 7, first + 3);
+            triple_refused(c, "target out of range", &with(1, &[0, 0, n as u8]), 6, 0, 2);
+            triple_refused(c, "the first triple twice", &with(2, &[0; 6]), 7, 1, 0);
+            triple_refused(c, "the last triple twice", &with(2, &[last, last].concat()), 7, 1, 0);
+            triple_refused(c, "the last triple first", &with(2, &[last, [0; 3]].concat()), 7, 1, 0);
         }
     }
 }
@@ -71,12 +80,25 @@ fn codes(c: &mut Checker, n: usize) {
 /// Every byte of 1,024 triples out of range, by one and as far as can be.
 fn out_of_range(c: &mut Checker) {
     let good = charts::longest(&mut c.random).bytes();
-    for at in 100..good.len() {
-        let limit = if at % 3 == 2 { 32 } else { 64 };
-        for value in [limit, 255] {
-            chart_refused(c, "out of range", &changed(&good, at, &[value]), 6, at);
+    for triple in 0..1024 {
+        for (byte, limit) in [64, 32, 64].into_iter().enumerate() {
+            for value in [limit, 255] {
+                triple_refused(c, "out of range", &changed(&good, 100 + 3 * triple + byte, &[value]), 6, triple, byte);
+            }
         }
     }
+}
+
+/// The same triple, and the greatest that is smaller by its source, by its action and by its target, where there is one. The last
+/// action and the last state are these.
+pub fn not_greater([s, a, t]: [u8; 3], action: u8, state: u8) -> impl Iterator<Item = [u8; 3]> {
+    let smaller = [
+        Some([s, a, t]),
+        s.checked_sub(1).map(|s| [s, action, state]),
+        a.checked_sub(1).map(|a| [s, a, state]),
+        t.checked_sub(1).map(|t| [s, a, t]),
+    ];
+    smaller.into_iter().flatten()
 }
 
 /// Each of 1,024 triples one too many, or not greater than the one before. With 62, 63 and 64 states a triple starts at every
@@ -84,26 +106,21 @@ fn out_of_range(c: &mut Checker) {
 fn triples(c: &mut Checker, n: usize) {
     let good = charts::drawn(&mut c.random, n, 32, 1024).bytes();
     let (first, top) = (n + 36, n as u8 - 1);
-    for at in (first..good.len()).step_by(3) {
-        let fewer = ((at - first) / 3) as u16;
-        chart_refused(c, "a triple left over", &changed(&good, first - 2, &fewer.to_le_bytes()), 8, at);
-        if fewer == 0 {
+    for triple in 0..1024 {
+        let at = first + 3 * triple;
+        let fewer = (triple as u16).to_le_bytes();
+        chart_refused(c, "a triple left over", &changed(&good, first - 2, &fewer), 8, at);
+        if triple == 0 {
             continue;
         }
-        let [s, a, t] = [good[at - 3], good[at - 2], good[at - 1]];
-        let smaller = [
-            Some([s, a, t]),
-            s.checked_sub(1).map(|s| [s, 31, top]),
-            a.checked_sub(1).map(|a| [s, a, top]),
-            t.checked_sub(1).map(|t| [s, a, t]),
-        ];
-        for triple in smaller.into_iter().flatten() {
-            chart_refused(c, "triples that do not rise", &changed(&good, at, &triple), 7, at);
+        let before @ [s, a, t] = [good[at - 3], good[at - 2], good[at - 1]];
+        for not_greater in not_greater(before, 31, top) {
+            triple_refused(c, "triples that do not rise", &changed(&good, at, &not_greater), 7, triple, 0);
         }
         // not greater, and out of range too: each byte is judged before the order is
         if let Some(s) = s.checked_sub(1) {
-            chart_refused(c, "an action out of range too", &changed(&good, at, &[s, 32, t]), 6, at + 1);
-            chart_refused(c, "a target out of range too", &changed(&good, at, &[s, a, top + 1]), 6, at + 2);
+            triple_refused(c, "an action out of range too", &changed(&good, at, &[s, 32, t]), 6, triple, 1);
+            triple_refused(c, "a target out of range too", &changed(&good, at, &[s, a, top + 1]), 6, triple, 2);
         }
     }
     for more in 1..=50 {
@@ -181,7 +198,7 @@ fn complete(c: &mut Checker, place: usize, before: &[u8]) {
     c.expect_answered("a formula with a variable", &property);
     for name in [0, 4] {
         let told = c.short_form(&E, &sheet(nodes, 0, &[]), name, 402);
-        c.expect_refused("a variable", &told, (1, 16, place as u64));
+        c.expect_refused("a variable", &told, (1, 16, place as u64, 0));
     }
     for after in [[0].as_slice(), &[9], &[1, 1]] {
         sheet_refused(c, "bytes left over", &sheet(nodes, 2, after), 8, end);
@@ -220,7 +237,7 @@ fn actions(c: &mut Checker, m: usize) {
             if (action as usize) < m || action == 255 {
                 c.expect_answered("an action", &told[0]);
             } else {
-                told.iter().for_each(|told| c.expect_refused("no such action", told, (1, 12, 4)));
+                told.iter().for_each(|told| c.expect_refused("no such action", told, (1, 12, 4, 0)));
             }
         }
     }

@@ -27,7 +27,7 @@ fn answered(c: &mut Checker, chart: &Chart, nodes: usize) {
     ];
     told.iter().for_each(|told| c.expect_answered("a good input", told));
     let told = [c.marks(&bytes, cells - 1), c.simulation(&bytes, cells - 1), c.short_form(&bytes, &f, name, written - 1)];
-    told.iter().for_each(|told| c.expect_refused("a buffer too short", told, (2, 14, 0)));
+    told.iter().for_each(|told| c.expect_refused("a buffer too short", told, (2, 14, 0, 0)));
 }
 
 fn states_and_actions(c: &mut Checker, n: usize) {
@@ -61,7 +61,7 @@ fn nodes(c: &mut Checker, nodes: usize) {
             if nodes <= most {
                 c.expect_answered("an F", &told);
             } else {
-                c.expect_refused("an F that is too long", &told, (1, 10, 2));
+                c.expect_refused("an F that is too long", &told, (1, 10, 2, 0));
             }
         }
     }

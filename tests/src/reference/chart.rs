@@ -99,15 +99,14 @@ fn read_transitions(c: &mut Cursor, n: usize, m: usize) -> Result<Vec<Step>, Ref
         return c.refuse(5, count_at, "transition count");
     }
     let mut steps: Vec<Step> = Vec::new();
-    for _ in 0..t {
-        let first = c.at;
-        let source = below(c, n, "source")?;
-        let action = below(c, m, "action")?;
-        let target = below(c, n, "target")?;
+    for triple in 0..t {
+        let source = below(c, n, (triple, 0), "source")?;
+        let action = below(c, m, (triple, 1), "action")?;
+        let target = below(c, n, (triple, 2), "target")?;
         let step = Step { source, action, target };
         if let Some(&before) = steps.last() {
             if step <= before {
-                return c.refuse(7, first, order_fault(step, before));
+                return c.refuse_triple(7, (triple, 0), order_fault(step, before));
             }
         }
         steps.push(step);
@@ -115,11 +114,11 @@ fn read_transitions(c: &mut Cursor, n: usize, m: usize) -> Result<Vec<Step>, Ref
     Ok(steps)
 }
 
-/// A state or action byte of a triple. 6: it is out of range.
-fn below(c: &mut Cursor, bound: usize, what: &'static str) -> Result<u8, Refusal> {
+/// A state or action byte, by its triple's number and which of the three it is. 6: it is out of range.
+fn below(c: &mut Cursor, bound: usize, line: (usize, u8), what: &'static str) -> Result<u8, Refusal> {
     let byte = c.byte(what)?;
     if byte as usize >= bound {
-        return c.refuse(6, c.at - 1, what);
+        return c.refuse_triple(6, line, what);
     }
     Ok(byte)
 }

@@ -32,7 +32,7 @@ fn fit_together(first: &Chart, second: &Chart) -> Result<(), Refusal> {
         (20, first.steps.len() + second.steps.len(), 1024, "transitions together"),
     ] {
         if together > most {
-            return Err(Refusal { input: Input::BufferOrName, number, place: 0, what });
+            return Err(Refusal { input: Input::BufferOrName, number, place: 0, byte: 0, what });
         }
     }
     Ok(())

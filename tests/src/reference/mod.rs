@@ -1,5 +1,6 @@
 //! Document 01 once more, written from its text alone: charts, sheets, their refusals and the four questions; and of document 02
-//! the comparison. It is made to be read beside the documents, and not to be fast. The checks hold the proved archive against it.
+//! the comparison and the lines of faulty triples. It is made to be read beside the documents, and not to be fast. The checks
+//! hold the proved archive against it.
 
 pub mod chart;
 pub mod compare;

@@ -13,7 +13,10 @@ pub enum Input {
 pub struct Refusal {
     pub input: Input,
     pub number: u8,
+    /// For 6 and 7 the triple's number from 0.
     pub place: usize,
+    /// 0, 1 or 2 for the byte within a triple in 6, and 0 everywhere else.
+    pub byte: u8,
     /// What stands at the place, in words. No part of the answer: the checks count by it which places were met.
     pub what: &'static str,
 }
@@ -21,14 +24,14 @@ pub struct Refusal {
 impl Refusal {
     /// As the calls for C return it.
     pub fn packed(&self) -> u64 {
-        self.number as u64 | (self.input as u64) << 8 | (self.place as u64) << 16
+        self.number as u64 | (self.input as u64) << 8 | (self.place as u64) << 16 | (self.byte as u64) << 48
     }
 }
 
 /// 14: the lent buffer is too short.
 pub fn long_enough(buffer: &[u8], length: usize) -> Result<(), Refusal> {
     if buffer.len() < length {
-        return Err(Refusal { input: Input::BufferOrName, number: 14, place: 0, what: "buffer" });
+        return Err(Refusal { input: Input::BufferOrName, number: 14, place: 0, byte: 0, what: "buffer" });
     }
     Ok(())
 }
@@ -65,6 +68,11 @@ impl<'a> Cursor<'a> {
     }
 
     pub fn refuse<T>(&self, number: u8, place: usize, what: &'static str) -> Result<T, Refusal> {
-        Err(Refusal { input: self.input, number, place, what })
+        Err(Refusal { input: self.input, number, place, byte: 0, what })
+    }
+
+    /// Of a triple, by its number from 0 and the byte within it.
+    pub fn refuse_triple<T>(&self, number: u8, (place, byte): (usize, u8), what: &'static str) -> Result<T, Refusal> {
+        Err(Refusal { input: self.input, number, place, byte, what })
     }
 }

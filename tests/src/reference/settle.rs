@@ -12,7 +12,7 @@ pub fn settle<T: PartialEq>(start: T, mut next: impl FnMut(&T) -> T) -> Result<(
             return Ok((now, rounds));
         }
         if rounds == 4096 {
-            return Err(Refusal { input: Input::BufferOrName, number: 15, place: 0, what: "rounds" });
+            return Err(Refusal { input: Input::BufferOrName, number: 15, place: 0, byte: 0, what: "rounds" });
         }
         now = after;
         rounds += 1;

@@ -33,13 +33,13 @@ pub fn short_form(chart: &[u8], sheet: &[u8], name: u64, buffer: &mut [u8]) -> R
     let chart = chart::read(chart)?;
     let sheet = sheet::read(sheet, chart.actions())?;
     if let Some(place) = sheet.variable_at {
-        return Err(Refusal { input: Input::Sheet, number: 16, place, what: "variable" });
+        return Err(Refusal { input: Input::Sheet, number: 16, place, byte: 0, what: "variable" });
     }
     let Some((kind, formula)) = table(name, sheet.formula) else {
-        return Err(Refusal { input: Input::BufferOrName, number: 17, place: 0, what: "name" });
+        return Err(Refusal { input: Input::BufferOrName, number: 17, place: 0, byte: 0, what: "name" });
     };
     if sheet::nodes(&formula) > 200 {
-        return Err(Refusal { input: Input::Sheet, number: 10, place: 2, what: "too many nodes in the result" });
+        return Err(Refusal { input: Input::Sheet, number: 10, place: 2, byte: 0, what: "too many nodes in the result" });
     }
     let bytes = sheet::bytes(kind, &formula);
     long_enough(buffer, bytes.len())?;

@@ -29,7 +29,7 @@ fn board(c: &mut Checker, what: &str, first: &[u8], second: &[u8], rounds: usize
         expect_list(c, what, &told, rounds, list);
     }
     let told = c.compare(first, second, list.len() - 1);
-    c.expect_refused(what, &told, (2, 14, 0));
+    c.expect_refused(what, &told, (2, 14, 0, 0));
 }
 
 /// Whether two charts have the same sequences of action codes, each from its state 0. A sequence leads to a set of states in
@@ -104,11 +104,11 @@ fn examples(c: &mut Checker) {
     twice[11] = 8;
     twice.extend([4, 2, 5]);
     let told = c.compare(&E, &twice, 67);
-    c.expect_refused("E beside E with a triple twice", &told, (3, 7, 34));
+    c.expect_refused("E beside E with a triple twice", &told, (3, 7, 7, 0));
     let told = c.compare(&twice, &E, 67);
-    c.expect_refused("E with a triple twice beside E", &told, (0, 7, 34));
+    c.expect_refused("E with a triple twice beside E", &told, (0, 7, 7, 0));
     let told = c.compare(&twice, &twice, 0);
-    c.expect_refused("both with a triple twice", &told, (0, 7, 34));
+    c.expect_refused("both with a triple twice", &told, (0, 7, 7, 0));
 }
 
 /// Actions are matched by code, wherever it stands in the two sections.
@@ -154,7 +154,7 @@ fn edges(c: &mut Checker) {
         for (first, second) in [(&first, &second), (&second, &first)] {
             for buffer in [0, 67] {
                 let told = c.compare(first, second, buffer);
-                c.expect_refused(what, &told, (2, number, 0));
+                c.expect_refused(what, &told, (2, number, 0, 0));
             }
         }
     }

@@ -31,9 +31,9 @@ fn both_cut(c: &mut Checker) {
         for j in 0..=L.len() {
             let told = c.pair(cut(&E, i), cut(&L, j));
             if i < E.len() {
-                c.expect_refused("both cut", &told, (0, 1, i as u64));
+                c.expect_refused("both cut", &told, (0, 1, i as u64, 0));
             } else if j < L.len() {
-                c.expect_refused("the second cut", &told, (3, 1, j as u64));
+                c.expect_refused("the second cut", &told, (3, 1, j as u64, 0));
             }
         }
     }

@@ -74,9 +74,9 @@ fn itself(c: &mut Checker, chart: &Chart) {
     let bytes = chart.bytes();
     let told = c.compare(&bytes, &bytes, 67);
     if chart.states() > 32 {
-        c.expect_refused("beside itself", &told, (2, 18, 0));
+        c.expect_refused("beside itself", &told, (2, 18, 0, 0));
     } else if chart.steps.len() > 512 {
-        c.expect_refused("beside itself", &told, (2, 20, 0));
+        c.expect_refused("beside itself", &told, (2, 20, 0, 0));
     } else {
         let marks = c.marks(&bytes, chart.states().pow(2));
         expect_list(c, "beside itself", &told, marks.numbers[1] as usize, &[0, 0, 0]);

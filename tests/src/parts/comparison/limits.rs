@@ -9,7 +9,7 @@ use crate::Job;
 
 fn refused(c: &mut Checker, what: &str, [first, second]: &[Chart; 2], number: u64) {
     let told = c.pair(&first.bytes(), &second.bytes());
-    c.expect_refused(what, &told, (2, number, 0));
+    c.expect_refused(what, &told, (2, number, 0, 0));
 }
 
 /// The first has n states, and the second every number that leaves 64 together; and one more.
@@ -54,7 +54,7 @@ fn transitions(c: &mut Checker, t: usize) {
     let sizes = [n, 64 - n];
     let both = pairs::drawn(&mut c.random, sizes, [32, 32], [t, 1024 - t]);
     let told = c.pair(&both[0].bytes(), &both[1].bytes());
-    c.expect(told.refusal().is_none_or(|refusal| refusal == (2, 14, 0)), || format!("{:?}", told.refusal()));
+    c.expect(told.refusal().is_none_or(|refusal| refusal == (2, 14, 0, 0)), || format!("{:?}", told.refusal()));
     let told = c.compare(&both[0].bytes(), &both[1].bytes(), 67);
     c.expect_answered("1,024 transitions together", &told);
     if t > 0 {

@@ -23,7 +23,7 @@ fn answered(c: &mut Checker, [first, second]: &[Chart; 2]) -> Told {
         let exact = c.compare(&first, &second, length);
         c.expect(exact.code == 0 && exact.buffer == told.buffer[..length], || format!("just long enough: {:?}", exact.buffer));
         let short = c.compare(&first, &second, length - 1);
-        c.expect_refused("a byte too short", &short, (2, 14, 0));
+        c.expect_refused("a byte too short", &short, (2, 14, 0, 0));
     }
     told
 }

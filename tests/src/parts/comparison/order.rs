@@ -2,15 +2,16 @@
 //! and 14.
 
 use super::super::order::faulty;
-use crate::checker::Checker;
+use crate::checker::{Checker, Refused};
 use crate::inputs::charts::counted;
 use crate::Job;
 
-/// Input, number and place; nothing where all is good.
-type Refusal = Option<(u64, u64, u64)>;
+/// Nothing where all is good.
+type Refusal = Option<Refused>;
 
-/// A good chart of two triples or more, as it is, and once for each refusal of a chart, with the number and the place.
-fn each_fault(good: &[u8]) -> Vec<(Vec<u8>, Option<(u64, u64)>)> {
+/// A good chart of two triples or more, as it is, and once for each refusal of a chart, as the first of two; 6 for each byte of a
+/// triple.
+fn each_fault(good: &[u8]) -> Vec<(Vec<u8>, Refusal)> {
     let (n, m) = (good[0] as usize, good[1 + good[0] as usize] as usize);
     let first = n + m + 4;
     let changed = |at: usize, to: &[u8]| {
@@ -20,16 +21,18 @@ fn each_fault(good: &[u8]) -> Vec<(Vec<u8>, Option<(u64, u64)>)> {
     };
     let twice = [&good[first..first + 3]; 2].concat();
     let faults = [
-        (good[..good.len() - 1].to_vec(), 1, good.len() - 1),
-        (changed(0, &[0]), 2, 0),
-        (changed(n + 1, &[33]), 3, n + 1),
-        (changed(n + 3, &good[n + 2..n + 3]), 4, n + 3),
-        (changed(first - 2, &1025u16.to_le_bytes()), 5, first - 2),
-        (changed(first, &[n as u8]), 6, first),
-        (changed(first, &twice), 7, first + 3),
-        ([good, &[0]].concat(), 8, good.len()),
+        (good[..good.len() - 1].to_vec(), 1, good.len() - 1, 0),
+        (changed(0, &[0]), 2, 0, 0),
+        (changed(n + 1, &[33]), 3, n + 1, 0),
+        (changed(n + 3, &good[n + 2..n + 3]), 4, n + 3, 0),
+        (changed(first - 2, &1025u16.to_le_bytes()), 5, first - 2, 0),
+        (changed(first, &[n as u8]), 6, 0, 0),
+        (changed(first + 4, &[m as u8]), 6, 1, 1),
+        (changed(first + 5, &[255]), 6, 1, 2),
+        (changed(first, &twice), 7, 1, 0),
+        ([good, &[0]].concat(), 8, good.len(), 0),
     ];
-    let faults = faults.into_iter().map(|(chart, number, place)| (chart, Some((number, place as u64))));
+    let faults = faults.into_iter().map(|(chart, number, place, byte)| (chart, Some((0, number, place as u64, byte))));
     [(good.to_vec(), None)].into_iter().chain(faults).collect()
 }
 
@@ -51,12 +54,12 @@ fn all(c: &mut Checker, [states, codes, transitions]: [bool; 3]) {
         for (second, of_second) in each_fault(&second) {
             for buffer in [0, 2, 67] {
                 let order: [Refusal; 6] = [
-                    of_first.map(|(number, place)| (0, number, place)),
-                    of_second.map(|(number, place)| (3, number, place)),
-                    states.then_some((2, 18, 0)),
-                    codes.then_some((2, 19, 0)),
-                    transitions.then_some((2, 20, 0)),
-                    (buffer < 3).then_some((2, 14, 0)),
+                    of_first,
+                    of_second.map(|(_, number, place, byte)| (3, number, place, byte)),
+                    states.then_some((2, 18, 0, 0)),
+                    codes.then_some((2, 19, 0, 0)),
+                    transitions.then_some((2, 20, 0, 0)),
+                    (buffer < 3).then_some((2, 14, 0, 0)),
                 ];
                 let told = c.compare(&first, &second, buffer);
                 let due = order.into_iter().flatten().next();
@@ -68,10 +71,10 @@ fn all(c: &mut Checker, [states, codes, transitions]: [bool; 3]) {
 
 /// Each faulty chart of document 01's order beside each.
 fn both_faulty(c: &mut Checker) {
-    for (what, first, number, place) in faulty() {
-        for (_, second, _, _) in faulty() {
+    for (what, first, [number, place, byte]) in faulty() {
+        for (_, second, _) in faulty() {
             let told = c.pair(&first, &second);
-            c.expect_refused(what, &told, (0, number, place));
+            c.expect_refused(what, &told, (0, number, place, byte));
         }
     }
 }
