@@ -1,10 +1,9 @@
--- The numbers below k that pass a test: which they are, how many, that they rise; and that no other list that rises has the same members. Assumes
--- nothing.
+-- The numbers below k that pass a test: which they are, how many, and that they rise. Assumes nothing.
 use Prim.Native.Nat.{ℕ, zero, suc, _+_, _≤_, _<_}
 use mathlib.Core.Path.{_≡_, refl, ap, _∙_}
 use mathlib.Core.Bool.{Bool, true, false, So}
-use mathlib.Core.List.{List, [], _∷_, _++_, append-nil, List·Memᴰ as Mem, List·Memᴰ·head as here, List·Memᴰ·tail as there, List·Memᴰ·not-nil as not-nil, List·Memᴰ·cases-cons as cases-cons, List·Memᴰ·eq-of-singleton as only-one, Memᴰ·append-left, Memᴰ·append-right, List·Memᴰ·append-cases}
-use mathlib.Core.Logic.{_⊎_, inl, inr, _↔_}
+use mathlib.Core.List.{List, [], _∷_, _++_, append-nil, List·Memᴰ as Mem, List·Memᴰ·head as here, List·Memᴰ·not-nil as not-nil, List·Memᴰ·eq-of-singleton as only-one, Memᴰ·append-left, Memᴰ·append-right, List·Memᴰ·append-cases}
+use mathlib.Core.Logic.{inl, inr}
 use native.Mathlib.Nat.{not-suc-le-zero}
 use native.Mathlib.Decide.{ℕ-discrete}
 use native.Mathlib.Numerals.{add-one}
@@ -14,7 +13,7 @@ use Rattle.settle.specs.Test.{pick}
 use Rattle.settle.proofs.Test.{never, picked, unpicked}
 use Rattle.chart.specs.Layout.{Rising}
 use Rattle.beside.specs.Chosen.{chosen}
-use Rattle.beside.proofs.Rising.{rising-rest, rising-append, rising-first}
+use Rattle.chart.proofs.Rising.{rising-append}
 
 -- ---- the last of them
 
@@ -76,23 +75,3 @@ chosen-more passes k t = rw add-one (ap (λ (l : List ℕ). chosen passes k ++ l
 pub chosen-skip : (passes : ℕ → Bool) (k : ℕ) → (So (passes k) → ⊥) → chosen passes (k + 1) ≡ chosen passes k
 unfolding chosen
 chosen-skip passes k f = rw add-one (ap (λ (l : List ℕ). chosen passes k ++ l) (unpicked (k ∷ []) [] (passes k) f) ∙ append-nil (chosen passes k))
-
--- ---- a list that rises is told by its members
-
-pub rising-same : (xs ys : List ℕ) → Rising _<_ xs → Rising _<_ ys → ((x : ℕ) → Mem x xs ↔ Mem x ys) → xs ≡ ys
-rising-same [] [] r s e = refl
-rising-same [] (y ∷ ys) r s e = absurd (not-nil (e y .1 (here refl)))
-rising-same (x ∷ xs) [] r s e = absurd (not-nil (e x .0 (here refl)))
-rising-same (x ∷ xs) (y ∷ ys) r s e =
-    let f = first (cases-cons (e x .0 (here refl))) (cases-cons (e y .1 (here refl))) in
-    let t = rising-same xs ys (rising-rest _<_ x xs r) (rising-rest _<_ y ys s) (λ z. (λ m. after (λ q. omega (arith, rising-first x xs r z m)) (cases-cons (e z .0 (there m))), λ m. after (λ q. omega (arith, rising-first y ys s z m)) (cases-cons (e z .1 (there m))))) in
-    rw (f, t)
-  where
-    first : (x ≡ y) ⊎ Mem x ys → (y ≡ x) ⊎ Mem y xs → x ≡ y
-    first (inl q) o = q
-    first (inr m) (inl q) = omega arith
-    first (inr m) (inr l) = omega (arith, rising-first y ys s x m, rising-first x xs r y l)
-
-    after : {z w : ℕ} {zs : List ℕ} → (z ≡ w → ⊥) → (z ≡ w) ⊎ Mem z zs → Mem z zs
-    after n (inl q) = absurd (n q)
-    after n (inr m) = m

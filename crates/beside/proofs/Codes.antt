@@ -14,7 +14,7 @@ use Rattle.settle.proofs.Test.{ext, either-l, either-r, either-e, any-i, any-e}
 use Rattle.chart.specs.Chart.{Chart}
 use Rattle.chart.specs.Layout.{Rising, Bytes}
 use Rattle.beside.specs.Beside.{declares, jointCodes, indexOf}
-use Rattle.beside.proofs.Rising.{rising-rest, rising-first}
+use Rattle.chart.proofs.Rising.{rising-rest, rising-first}
 use Rattle.beside.proofs.Chosen.{chosen-i, chosen-e, chosen-rising, chosen-cong}
 
 -- ---- declared

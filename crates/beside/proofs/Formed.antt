@@ -16,7 +16,7 @@ use Rattle.chart.specs.Layout.{Earlier, Rising, Bytes, WellFormed}
 use Rattle.chart.specs.declared.Judged.{Judged}
 use Rattle.chart.specs.declared.Judged.the-variants.{Fine, Bad}
 use Rattle.beside.specs.Beside.{jointCodes, moved, movedSteps, beside, judgeTogether}
-use Rattle.beside.proofs.Rising.{rising-append}
+use Rattle.chart.proofs.Rising.{rising-append}
 use Rattle.beside.proofs.Codes.{joint-members, joint-rising}
 use Rattle.beside.proofs.Moved.{moved-rising}
 use Rattle.beside.proofs.Steps.{first-joint, second-joint, steps-in}

@@ -1,4 +1,3 @@
-pub mod Rising
 pub mod Chosen
 pub mod Codes
 pub mod Moved

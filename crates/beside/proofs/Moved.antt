@@ -10,7 +10,7 @@ use Rattle.chart.specs.Chart.{Step, Chart, states}
 use Rattle.chart.specs.Layout.{Rising, Earlier, StepIn, WellFormed}
 use Rattle.beside.specs.Beside.{indexOf, moved, movedSteps}
 use Rattle.beside.specs.Partner.{codeOf}
-use Rattle.beside.proofs.Rising.{rising-map, place-member, rising-place}
+use Rattle.chart.proofs.Rising.{rising-map, place-member, rising-place}
 use Rattle.beside.proofs.Codes.{index-in, index-code, index-same, index-rising}
 
 module _ (c : Chart) (formed : WellFormed c) where

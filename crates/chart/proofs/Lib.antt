@@ -7,3 +7,4 @@ pub mod Refused
 pub mod Continued
 pub mod Beginning
 pub mod Line
+pub mod Rising

@@ -1,16 +1,16 @@
 -- A refusal compares nothing, and the promise of compare determines the answer and every byte. Assumes nothing.
-use Prim.Native.Nat.{ℕ}
+use Prim.Native.Nat.{ℕ, _<_}
 use mathlib.Core.Path.{_≡_, sym, ap, _∙_}
 use mathlib.Core.List.{List}
 use native.Mathlib.Omega.{arith}
 use Rattle.settle.proofs.Chain.{rounds-unique}
 use Rattle.refusal.specs.declared.Refusal.{Refusal}
 use Rattle.chart.specs.Chart.{Chart, states}
+use Rattle.chart.proofs.Rising.{rising-same}
 use Rattle.nearness.proofs.Mark.{mark-unique}
 use Rattle.lent.specs.Lent.{writes, answerOf, bytesOf}
 use Rattle.beside.specs.Beside.{beside}
 use Rattle.beside.specs.Reading.{TwoRead, two, refused, readTwo}
-use Rattle.beside.proofs.Chosen.{rising-same}
 use Rattle.compare.specs.Comparison.{listed, Alone, Comparison}
 use Rattle.compare.specs.Promise.{withRounds, Compares, Answers, ComparePromise}
 use Rattle.compare.specs.declared.Comparison as Struct
@@ -21,7 +21,7 @@ pub not-compared : {A : Type 0} {r : Refusal} {given : Struct.Comparison} → Re
 not-compared e = let z : _≡_ {A = ℕ} 0 1 = cc in absurd (omega arith)
 
 pub alone-unique : (n : ℕ) (Matched : ℕ → Type 0) (xs ys : List ℕ) → Alone n Matched xs → Alone n Matched ys → xs ≡ ys
-alone-unique n Matched xs ys a b = rising-same xs ys (a .rising) (b .rising) (λ x. (λ m. b .exactly x .1 (a .exactly x .0 m), λ m. a .exactly x .1 (b .exactly x .0 m)))
+alone-unique n Matched xs ys a b = rising-same _<_ (λ x y z h k. omega arith) (λ x h. omega arith) xs ys (a .rising) (b .rising) (λ x. (λ m. b .exactly x .1 (a .exactly x .0 m), λ m. a .exactly x .1 (b .exactly x .0 m)))
 
 pub comparison-determined : (c d : Chart) {mark mark′ rounds rounds′ : ℕ} {first first′ second second′ : List ℕ} → Comparison c d mark first second rounds → Comparison c d mark′ first′ second′ rounds′
     → (mark ≡ mark′) × (first ≡ first′) × (second ≡ second′) × (rounds ≡ rounds′)

@@ -8,7 +8,7 @@ use lib.ListN.{length}
 use Rattle.refusal.specs.declared.Refusal.{Refusal}
 use Rattle.chart.specs.Chart.{Chart, states}
 use Rattle.beside.specs.Reading.{TwoRead, two, refused, readTwo}
-use Rattle.beside.proofs.Rising.{rising-few}
+use Rattle.chart.proofs.Rising.{rising-few}
 use Rattle.beside.proofs.Formed.{fine-exactly}
 use Rattle.beside.proofs.Reading.{two-read}
 use Rattle.compare.specs.Comparison.{listed, longestComparison, Alone, Comparison}

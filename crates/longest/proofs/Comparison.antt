@@ -14,7 +14,7 @@ use Rattle.nearness.proofs.Rounds.{near-rounds, mark-is}
 use Rattle.beside.specs.Chosen.{chosen}
 use Rattle.beside.specs.Beside.{jointCodes, beside}
 use Rattle.beside.specs.Partner.{Partners, FirstMatched, SecondMatched}
-use Rattle.beside.proofs.Rising.{rising-few}
+use Rattle.chart.proofs.Rising.{rising-few}
 use Rattle.beside.proofs.Chosen.{chosen-all}
 use Rattle.beside.proofs.Codes.{joint-members, joint-rising}
 use Rattle.beside.proofs.Formed.{fine-exactly}

@@ -30,6 +30,16 @@ module _ (bytes : List ℕ) (at n : ℕ) (first : List ℕ) (w : Sorted bytes at
   pub range-target : (p i : ℕ) → p < n → i < getD first (p + 1) 0 → targetAt bytes at i < n
   range-target p i h l = w .triples .targets-in i (omega (arith, range-end p h .0))
 
+  -- the triples of that range are the steps of p
+  pub source-of : (p i : ℕ) → p < n → getD first p 0 ≤ i → i < getD first (p + 1) 0 → sourceAt bytes at i ≡ p
+  source-of p i h l k = omega (arith, w .sources .before (p + 1) i (omega arith) k, w .sources .after p i (omega arith) (omega (arith, range-end p h .0)) l)
+
+  pub range-of : (p i : ℕ) → p < n → i < t → sourceAt bytes at i ≡ p → (getD first p 0 ≤ i) × (i < getD first (p + 1) 0)
+  range-of p i h l e = (
+    elim (decLe (getD first p 0) i) [ yes a ↦ a | no f ↦ absurd (omega (arith, w .sources .before p i (omega arith) (omega arith))) ],
+    elim (decLe (suc i) (getD first (p + 1) 0)) [ yes a ↦ a | no f ↦ absurd (omega (arith, w .sources .after (p + 1) i (omega arith) l (omega arith))) ],
+  )
+
   -- the cells that two ranges need are in the buffer
   module _ (p q size : ℕ) (p-in : p < n) (q-in : q < n) (room : n * n ≤ size) where
     abbrev Cells : ℕ → ℕ → Type 0
@@ -54,15 +64,6 @@ module _ (bytes : List ℕ) (at n : ℕ) (first : List ℕ) (w : Sorted bytes at
     )
 
   module _ (p q : ℕ) (p-in : p < n) (q-in : q < n) (R : Relation) where
-    source-of : (p i : ℕ) → p < n → getD first p 0 ≤ i → i < getD first (p + 1) 0 → sourceAt bytes at i ≡ p
-    source-of p i h l k = omega (arith, w .sources .before (p + 1) i (omega arith) k, w .sources .after p i (omega arith) (omega (arith, range-end p h .0)) l)
-
-    range-of : (p i : ℕ) → p < n → i < t → sourceAt bytes at i ≡ p → (getD first p 0 ≤ i) × (i < getD first (p + 1) 0)
-    range-of p i h l e = (
-      elim (decLe (getD first p 0) i) [ yes a ↦ a | no f ↦ absurd (omega (arith, w .sources .before p i (omega arith) (omega arith))) ],
-      elim (decLe (suc i) (getD first (p + 1) 0)) [ yes a ↦ a | no f ↦ absurd (omega (arith, w .sources .after (p + 1) i (omega arith) l (omega arith))) ],
-    )
-
     abbrev Answer : Bool → Type 0
     Answer b = AllAnswered bytes at (getD first p 0) (getD first (p + 1) 0) (getD first q 0) (getD first (q + 1) 0) R b
 

@@ -1,0 +1,4 @@
+pub mod Line
+pub mod Good
+pub mod Spelled
+pub mod Own
