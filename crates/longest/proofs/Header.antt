@@ -9,13 +9,16 @@ use Rattle.relation.proofs.Cells.{cells-few}
 use Rattle.short_form.proofs.Room.{room-enough}
 use Rattle.compare.specs.Comparison.{longestComparison}
 use Rattle.compare.proofs.Room.{comparison-room}
+use Rattle.reason.specs.Line.{longestList}
 use Rattle.longest.specs.Header.{Header}
-use Rattle.longest.specs.Longest.{fullChart, nested, loopChart, restChart}
+use Rattle.longest.specs.Longest.{fullChart, nested, loopChart, restChart, rowChart}
 use Rattle.longest.proofs.Bytes.{chart-bytes, sheet-bytes}
 use Rattle.longest.proofs.Longest.{full-formed, full-accepted, full-length, nested-formed, nested-accepted, nested-length}
 use Rattle.longest.proofs.Comparison.{loop-formed, rest-formed, comparison-reached}
+use Rattle.longest.proofs.Row.{row-formed}
+use Rattle.longest.proofs.Reasons.{reasons-reached, reasons-room}
 
-pub header-constants : Header 64 longestChart Sheet.longestSheet longestComparison
+pub header-constants : Header 64 longestChart Sheet.longestSheet longestComparison longestList
 header-constants = record {
   matrix-room = λ s sh e. cells-few (sh .n) (accepted s sh e .states-few);
   charts-short = chart-short;
@@ -25,4 +28,6 @@ header-constants = record {
   room-enough = room-enough;
   comparison-room = comparison-room;
   comparison-reaches = (encode loopChart, encode restChart, chart-bytes loopChart loop-formed, chart-bytes restChart rest-formed, comparison-reached);
+  reasons-room = reasons-room;
+  reasons-reach = (encode rowChart, chart-bytes rowChart row-formed, reasons-reached);
 }

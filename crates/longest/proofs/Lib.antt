@@ -1,4 +1,6 @@
 pub mod Bytes
 pub mod Longest
 pub mod Comparison
+pub mod Row
+pub mod Reasons
 pub mod Header

@@ -1,7 +1,7 @@
 -- The full chart and the nested formula are accepted, and their files have the greatest lengths. Assumes nothing.
 use Prim.Native.Nat.{ℕ, zero, suc, _+_, _*_, _%_, _<_, _≤_}
 use mathlib.Core.Path.{_≡_, refl, ap}
-use mathlib.Core.List.{List·Memᴰ as Mem, List·Memᴰ·not-nil as not-nil, List·Memᴰ·cases-cons as cases-cons}
+use mathlib.Core.List.{List·Memᴰ as Mem, List·Memᴰ·head as here, List·Memᴰ·tail as there, List·Memᴰ·not-nil as not-nil, List·Memᴰ·cases-cons as cases-cons}
 use mathlib.Core.Logic.{inl, inr}
 use native.Mathlib.Omega.{arith}
 use native.Mathlib.Decide.{ℕ-discrete}
@@ -34,7 +34,12 @@ module _ {A : Type 0} (item : ℕ → A) where
     | inr l ↦ let r = counted-member (suc i) k l in (r .0, omega (arith, r .1), r .2)
   ]
 
-  counted-rising : (R : A → A → Type 0) → ((j : ℕ) → R (item j) (item (suc j))) → (i k : ℕ) → Rising R (counted item i k)
+  pub counted-i : (i k j : ℕ) → i ≤ j → j < i + k → Mem (item j) (counted item i k)
+  unfolding counted
+  counted-i i zero j l h = absurd (omega arith)
+  counted-i i (suc k) j l h = elim (ℕ-discrete j i) [ yes e ↦ here (ap item e) | no f ↦ there (counted-i (suc i) k j (omega arith) (omega arith)) ]
+
+  pub counted-rising : (R : A → A → Type 0) → ((j : ℕ) → R (item j) (item (suc j))) → (i k : ℕ) → Rising R (counted item i k)
   unfolding counted Rising
   counted-rising R f i zero = tt
   counted-rising R f i (suc zero) = tt

@@ -1,0 +1,4 @@
+pub mod Leads
+pub mod Rows
+pub mod Judged
+pub mod Promise

@@ -1,0 +1,4 @@
+pub mod Rising
+pub mod Putting
+pub mod Choosing
+pub mod Determined

@@ -1,0 +1,3 @@
+pub mod Linked
+pub mod Begun
+pub mod Promise
