@@ -18,25 +18,32 @@ use Rattle.property.specs.declared.PropertyAnswer.{PropertyAnswer}
 use Rattle.property.specs.declared.PropertyAnswer.the-variants as Property
 use Rattle.lent.specs.declared.LentAnswer.{LentAnswer}
 use Rattle.lent.specs.declared.LentAnswer.the-variants as Form
-use Rattle.short_form.specs.Promise.{ShortFormPromise}
+use Rattle.check_reasons.specs.Promise.{CheckPromise}
+use Rattle.check_reasons.specs.declared.CheckAnswer.{CheckAnswer}
+use Rattle.check_reasons.specs.declared.CheckAnswer.the-variants as Checking
 use Rattle.compare.specs.Promise.{ComparePromise}
 use Rattle.compare.specs.declared.CompareAnswer.{CompareAnswer}
 use Rattle.compare.specs.declared.CompareAnswer.the-variants as Comparing
-use Rattle.viewer.specs.Packing.{packed}
-use Rattle.viewer.specs.Shown.{lent, matrixCode, matrixStates, matrixRounds, propertyCode, wordLeft, countLeft, roundsLeft, formCode, writtenLeft, compareCode, compareWritten, compareRounds, MatrixShown, MarksShown, SimulationShown, PropertyShown, ShortFormShown, CompareShown}
-use Rattle.viewer.proofs.Packing.{Packable, packed-some, packing}
-use Rattle.viewer.proofs.Packable.{matrix-packable, property-packable, short-form-packable, compare-packable}
+use Rattle.calls.specs.Packing.{packed}
+use Rattle.calls.specs.Shown.{lent, matrixCode, matrixStates, matrixRounds, propertyCode, wordLeft, countLeft, roundsLeft, writtenCode, writtenLeft, checkCode, linesLeft, compareCode, compareWritten, compareRounds, MatrixShown, MarksShown, SimulationShown, PropertyShown, WrittenShown, CheckShown, CompareShown}
+use Rattle.calls.proofs.Packing.{Packable, packed-some, packing}
+use Rattle.calls.proofs.Packable.{matrix-packable, property-packable, short-form-packable, reasons-packable, check-packable, compare-packable}
 use Rattle.idle.specs.Slice.{Slice}
 use Rattle.idle.specs.Matrix as Matrix
 use Rattle.idle.specs.Property as Properties
 use Rattle.idle.specs.Written as Written
 use Rattle.idle.specs.ShortForm.{Asked}
+use Rattle.idle.specs.ShortForm as ShortForms
+use Rattle.idle.specs.Reasons as Reasoning
+use Rattle.idle.specs.CheckReasons as Checks
 use Rattle.idle.specs.Compare as Compare
-use Rattle.idle.specs.Call.{inputOf, refusalOf, MatrixLeft, matrixRead, matrixBuild, MeetsMatrix, PropertyLeft, propertyRead, propertyBuild, MeetsProperty, FormLeft, formRead, formBuild, MeetsForm, CompareLeft, compareRead, compareBuild, MeetsCompare}
+use Rattle.idle.specs.Call.{inputOf, refusalOf, MatrixLeft, matrixRead, matrixBuild, MeetsMatrix, PropertyLeft, propertyRead, propertyBuild, MeetsProperty, WrittenLeft, writtenRead, writtenBuild, MeetsWritten, CheckLeft, checkRead, checkBuild, MeetsCheck, CompareLeft, compareRead, compareBuild, MeetsCompare}
 use Rattle.idle.proofs.Marks.{marks-not-idle}
 use Rattle.idle.proofs.Simulation.{simulation-not-idle}
 use Rattle.idle.proofs.Property.{property-not-idle}
 use Rattle.idle.proofs.ShortForm.{short-form-not-idle}
+use Rattle.idle.proofs.Reasons.{reasons-not-idle}
+use Rattle.idle.proofs.CheckReasons.{check-not-idle}
 use Rattle.idle.proofs.Compare.{compare-not-idle}
 
 -- ---- a refusal is read back from its code
@@ -97,20 +104,36 @@ pub property-call-not-idle : (word count rounds : ℕ) (call : Slice → Slice �
 property-call-not-idle word count rounds call s =
     property-not-idle (propertyBuild call) (λ chart sheet. property-promised (chart .0) (sheet .0) word count rounds (call chart sheet) (s chart sheet))
 
--- ---- short form
+-- ---- short form and reasons
 
-form-promised : (chart sheet : List ℕ) (name : ℕ) (old : List ℕ) (written : ℕ) (x : FormLeft)
-    → ShortFormShown chart sheet name old (x .bytes) (lent written (x .written)) (x .code) → ShortFormPromise chart sheet name old (x .bytes) (formRead x)
-form-promised chart sheet name old written x s = go (s .answer) (s .promised) (s .code-is) (s .written-is)
+-- where every refusal that the question promises can be packed
+written-promised : {Promise : List ℕ → List ℕ → LentAnswer → Type 0} → ((old new : List ℕ) (r : Refusal) → Promise old new (Form.Refused r) → Packable r)
+    → (old : List ℕ) (written : ℕ) (x : WrittenLeft) → WrittenShown Promise old (x .bytes) (lent written (x .written)) (x .code) → Promise old (x .bytes) (writtenRead x)
+written-promised {Promise} packable old written x s = go (s .answer) (s .promised) (s .code-is) (s .written-is)
   where
-    go : (a : LentAnswer) → ShortFormPromise chart sheet name old (x .bytes) a → x .code ≡ formCode a → x .written ≡ writtenLeft written a
-        → ShortFormPromise chart sheet name old (x .bytes) (formRead x)
-    go (Form.Written length) p c e = read-given (ShortFormPromise chart sheet name old (x .bytes)) Form.Refused _ (x .code) c (rw e p)
-    go (Form.Refused r) p c e = read-refused (ShortFormPromise chart sheet name old (x .bytes)) Form.Refused _ (x .code) r (short-form-packable chart sheet name old (x .bytes) r p) c p
+    go : (a : LentAnswer) → Promise old (x .bytes) a → x .code ≡ writtenCode a → x .written ≡ writtenLeft written a → Promise old (x .bytes) (writtenRead x)
+    go (Form.Written length) p c e = read-given (Promise old (x .bytes)) Form.Refused _ (x .code) c (rw e p)
+    go (Form.Refused r) p c e = read-refused (Promise old (x .bytes)) Form.Refused _ (x .code) r (packable old (x .bytes) r p) c p
 
-pub short-form-call-not-idle : (written : ℕ) (call : Asked → Slice → FormLeft) → MeetsForm written call → Written.NotIdle (formBuild call)
+pub short-form-call-not-idle : (written : ℕ) (call : Asked → Slice → WrittenLeft) → MeetsWritten ShortForms.Promise written call → Written.NotIdle (writtenBuild call)
 short-form-call-not-idle written call s =
-    short-form-not-idle (formBuild call) (λ i old. form-promised (i .chart .0) (i .sheet .0) (i .name) (old .0) written (call i old) (s i old))
+    short-form-not-idle (writtenBuild call) (λ i old. written-promised (short-form-packable (i .chart .0) (i .sheet .0) (i .name)) (old .0) written (call i old) (s i old))
+
+pub reasons-call-not-idle : (written : ℕ) (call : Slice → Slice → WrittenLeft) → MeetsWritten Reasoning.Promise written call → Reasoning.NotIdle (writtenBuild call)
+reasons-call-not-idle written call s =
+    reasons-not-idle (writtenBuild call) (λ chart old. written-promised (reasons-packable (chart .0)) (old .0) written (call chart old) (s chart old))
+
+-- ---- the check of a list
+
+check-promised : (chart list : List ℕ) (lines : ℕ) (x : CheckLeft) → CheckShown chart list (lent lines (x .lines)) (x .code) → CheckPromise chart list (checkRead x)
+check-promised chart list lines x s = go (s .answer) (s .promised) (s .code-is) (s .lines-is)
+  where
+    go : (a : CheckAnswer) → CheckPromise chart list a → x .code ≡ checkCode a → x .lines ≡ linesLeft lines a → CheckPromise chart list (checkRead x)
+    go (Checking.Accepted count) p c e = read-given (CheckPromise chart list) Checking.Refused _ (x .code) c (rw e p)
+    go (Checking.Refused r) p c e = read-refused (CheckPromise chart list) Checking.Refused _ (x .code) r (check-packable chart list r p) c p
+
+pub check-call-not-idle : (lines : ℕ) (call : Slice → Slice → CheckLeft) → MeetsCheck lines call → Checks.NotIdle (checkBuild call)
+check-call-not-idle lines call s = check-not-idle (checkBuild call) (λ chart list. check-promised (chart .0) (list .0) lines (call chart list) (s chart list))
 
 -- ---- compare
 

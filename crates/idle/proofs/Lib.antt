@@ -7,6 +7,8 @@ pub mod Property
 pub mod Written
 pub mod ShortForm
 pub mod Compare
+pub mod Reasons
+pub mod CheckReasons
 pub mod Report
 pub mod Readers
 pub mod Call

@@ -13,14 +13,16 @@ use Rattle.property.specs.declared.PropertyAnswer.{PropertyAnswer}
 use Rattle.property.specs.declared.PropertyAnswer.the-variants as Property
 use Rattle.lent.specs.declared.LentAnswer.{LentAnswer}
 use Rattle.lent.specs.declared.LentAnswer.the-variants.{Written, Refused}
+use Rattle.check_reasons.specs.declared.CheckAnswer.{CheckAnswer}
+use Rattle.check_reasons.specs.declared.CheckAnswer.the-variants as Checking
 use Rattle.compare.specs.declared.CompareAnswer.{CompareAnswer}
 use Rattle.compare.specs.declared.CompareAnswer.the-variants as Comparing
-use Rattle.viewer.specs.Shown.{Lent, lent, PropertyShown, ShortFormShown, CompareShown}
+use Rattle.calls.specs.Shown.{Lent, lent, PropertyShown, WrittenShown, CheckShown, CompareShown}
 use Rattle.idle.specs.Slice.{Slice}
 use Rattle.idle.specs.Matrix as Matrix
 use Rattle.idle.specs.Property as Properties
 use Rattle.idle.specs.Written as Written
-use Rattle.idle.specs.ShortForm.{Asked}
+use Rattle.idle.specs.CheckReasons as Checks
 use Rattle.idle.specs.Compare as Compare
 
 -- 0 chart, 1 sheet, 2 buffer or name, 3 second chart
@@ -67,22 +69,37 @@ abbrev pub MeetsProperty : ℕ → ℕ → ℕ → (Slice → Slice → Property
 MeetsProperty word count rounds call = (chart sheet : Slice) → let x = call chart sheet in
     PropertyShown (chart .0) (sheet .0) (lent word (x .word)) (lent count (x .count)) (lent rounds (x .rounds)) (x .code)
 
--- ---- short form
+-- ---- bytes in a lent buffer: short form, and reasons
 
-pub record FormLeft : Type 0 where
+pub record WrittenLeft : Type 0 where
   pub code : ℕ
   pub bytes : List ℕ
   pub written : ℕ
 
-abbrev pub formRead : FormLeft → LentAnswer
-formRead x = pick (eqb (x .code) 0) (Written (x .written)) (Refused (refusalOf (x .code)))
+abbrev pub writtenRead : WrittenLeft → LentAnswer
+writtenRead x = pick (eqb (x .code) 0) (Written (x .written)) (Refused (refusalOf (x .code)))
 
-abbrev pub formBuild : (Asked → Slice → FormLeft) → Written.Build Asked
-formBuild call i old = (formRead (call i old), call i old .bytes)
+abbrev pub writtenBuild : {I : Type 0} → (I → Slice → WrittenLeft) → Written.Build I
+writtenBuild call i old = (writtenRead (call i old), call i old .bytes)
 
-abbrev pub MeetsForm : ℕ → (Asked → Slice → FormLeft) → Type 0
-MeetsForm written call = (i : Asked) (old : Slice) → let x = call i old in
-    ShortFormShown (i .chart .0) (i .sheet .0) (i .name) (old .0) (x .bytes) (lent written (x .written)) (x .code)
+-- Promise is what the question promises of what is given, of the lent bytes before and after, and of the answer
+abbrev pub MeetsWritten : {I : Type 0} → (I → List ℕ → List ℕ → LentAnswer → Type 0) → ℕ → (I → Slice → WrittenLeft) → Type 0
+MeetsWritten {I} Promise written call = (i : I) (old : Slice) → let x = call i old in WrittenShown (Promise i) (old .0) (x .bytes) (lent written (x .written)) (x .code)
+
+-- ---- the check of a list
+
+pub record CheckLeft : Type 0 where
+  pub code : ℕ
+  pub lines : ℕ
+
+abbrev pub checkRead : CheckLeft → CheckAnswer
+checkRead x = pick (eqb (x .code) 0) (Checking.Accepted (x .lines)) (Checking.Refused (refusalOf (x .code)))
+
+abbrev pub checkBuild : (Slice → Slice → CheckLeft) → Checks.Build
+checkBuild call chart list = checkRead (call chart list)
+
+abbrev pub MeetsCheck : ℕ → (Slice → Slice → CheckLeft) → Type 0
+MeetsCheck lines call = (chart list : Slice) → let x = call chart list in CheckShown (chart .0) (list .0) (lent lines (x .lines)) (x .code)
 
 -- ---- compare
 

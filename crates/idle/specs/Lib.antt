@@ -4,4 +4,6 @@ pub mod Property
 pub mod Written
 pub mod ShortForm
 pub mod Compare
+pub mod Reasons
+pub mod CheckReasons
 pub mod Call

@@ -1,6 +1,6 @@
 -- Document 01's idle builds of a question whose bytes go to a lent buffer. I is what the call is given beside the buffer; a build gives, for
--- every one and every buffer, the answer and the buffer after it. `short-form-not-idle` and `report-not-idle` of proofs/ say that none of the three
--- meets the promise. A short form tells no rounds; those that the report tells are of the marks.
+-- every one and every buffer, the answer and the buffer after it. `short-form-not-idle`, `reasons-not-idle` and `report-not-idle` of proofs/ say that
+-- none of the three meets the promise. A short form tells no rounds; those that the report tells are of the marks.
 use Prim.Native.Nat.{ℕ}
 use mathlib.Core.Path.{_≡_}
 use mathlib.Core.List.{List}

@@ -1,5 +1,6 @@
 // The questions for the C viewer, on byte slices and numbers. Each call answers 0, or the refusal as number | input << 8 | place << 16
 // | byte << 48; the lent numbers and bytes are written only where it answers 0.
+use check_reasons::CheckAnswer;
 use compare::CompareAnswer;
 use lent::LentAnswer;
 use property::PropertyAnswer;
@@ -7,12 +8,13 @@ use refusal::Refusal;
 use relation::MatrixAnswer;
 ghost use mathlib.Core.Path.{_≡_};
 ghost use Prim.Native.Nat.{_≤_};
-ghost use Rattle.viewer.specs.Packing.{packed};
-ghost use Rattle.viewer.specs.Shown.{lent, CompareShown, MarksShown, PropertyShown, ShortFormShown, SimulationShown};
+ghost use Rattle.calls.specs.Packing.{packed};
+ghost use Rattle.calls.specs.Shown.{lent, CheckShown, CompareShown, MarksShown, PropertyShown, ReasonsShown, ShortFormShown, SimulationShown};
 
-// The refusal in one number. Its parts are small: a place is at most 3,172 in a chart and 403 in a sheet, a byte at most 2.
+// The refusal in one number. Its parts are small: a place is at most 3,172 in a chart, 403 in a sheet and 4,032 in a list,
+// a byte at most 2.
 fn pack(refusal: Refusal) -> u64
-    requires { ⌜ (refusal .place ≤ 3172) × (refusal .byte ≤ 2) ⌝ }
+    requires { ⌜ (refusal .place ≤ 4032) × (refusal .byte ≤ 2) ⌝ }
     ensures { λ r. ⌜ r ≡ packed refusal ⌝ }
 {
     let input = refusal.input;
@@ -127,5 +129,35 @@ pub extern "C" fn rebatelion_compare(
             0
         }
         CompareAnswer::Refused(r) => pack(r),
+    }
+}
+
+// The list of reasons, a line for each two unequal states, in the start of the buffer, and its length.
+#[no_mangle]
+pub extern "C" fn rebatelion_reasons(chart: &[u8], buffer: &mut [u8], written: &mut u64) -> u64
+    ensures { λ r. ⌜ ReasonsShown (now (chart .entry)) (now (buffer .entry)) (now (buffer .exit)) (lent (now (written .entry)) (now (written .exit))) r ⌝ }
+{
+    let answer = reasons::reasons(chart, buffer);
+    match answer {
+        LentAnswer::Written(size) => {
+            *written = size as u64;
+            0
+        }
+        LentAnswer::Refused(r) => pack(r),
+    }
+}
+
+// The number of lines of a good list.
+#[no_mangle]
+pub extern "C" fn rebatelion_check_reasons(chart: &[u8], list: &[u8], lines: &mut u64) -> u64
+    ensures { λ r. ⌜ CheckShown (now (chart .entry)) (now (list .entry)) (lent (now (lines .entry)) (now (lines .exit))) r ⌝ }
+{
+    let answer = check_reasons::check_reasons(chart, list);
+    match answer {
+        CheckAnswer::Accepted(count) => {
+            *lines = count as u64;
+            0
+        }
+        CheckAnswer::Refused(r) => pack(r),
     }
 }

@@ -1,5 +1,5 @@
 use borrow.Author.Needs.{needs}
-use Rattle.viewer.proofs.Packable.{compare-packable}
+use Rattle.calls.proofs.Packable.{compare-packable}
 use Rattle.viewer.proofs.rebatelion_compare.Statement.{statement}
 use Rattle.viewer.proofs.rebatelion_compare.Tie as tie
 

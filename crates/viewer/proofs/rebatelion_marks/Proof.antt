@@ -1,5 +1,5 @@
 use borrow.Author.Needs.{needs}
-use Rattle.viewer.proofs.Packable.{matrix-packable}
+use Rattle.calls.proofs.Packable.{matrix-packable}
 use Rattle.viewer.proofs.rebatelion_marks.Statement.{statement}
 use Rattle.viewer.proofs.rebatelion_marks.Tie as tie
 

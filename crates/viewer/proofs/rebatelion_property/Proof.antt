@@ -1,5 +1,5 @@
 use borrow.Author.Needs.{needs}
-use Rattle.viewer.proofs.Packable.{property-packable}
+use Rattle.calls.proofs.Packable.{property-packable}
 use Rattle.viewer.proofs.rebatelion_property.Statement.{statement}
 use Rattle.viewer.proofs.rebatelion_property.Tie as tie
 

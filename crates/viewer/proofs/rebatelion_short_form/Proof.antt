@@ -1,5 +1,5 @@
 use borrow.Author.Needs.{needs}
-use Rattle.viewer.proofs.Packable.{short-form-packable}
+use Rattle.calls.proofs.Packable.{short-form-packable}
 use Rattle.viewer.proofs.rebatelion_short_form.Statement.{statement}
 use Rattle.viewer.proofs.rebatelion_short_form.Tie as tie
 

@@ -1,5 +1,5 @@
 use borrow.Author.Needs.{needs}
-use Rattle.viewer.proofs.Packable.{matrix-packable}
+use Rattle.calls.proofs.Packable.{matrix-packable}
 use Rattle.viewer.proofs.rebatelion_simulation.Statement.{statement}
 use Rattle.viewer.proofs.rebatelion_simulation.Tie as tie
 

@@ -13,10 +13,14 @@ use Rattle.property.specs.declared.PropertyAnswer.the-variants as Property
 use Rattle.lent.specs.declared.LentAnswer.{LentAnswer}
 use Rattle.lent.specs.declared.LentAnswer.the-variants.{Written, Refused}
 use Rattle.short_form.specs.Promise.{ShortFormPromise}
+use Rattle.reasons.specs.Promise.{ReasonsPromise}
+use Rattle.check_reasons.specs.Promise.{CheckPromise}
+use Rattle.check_reasons.specs.declared.CheckAnswer.{CheckAnswer}
+use Rattle.check_reasons.specs.declared.CheckAnswer.the-variants as Check
 use Rattle.compare.specs.Promise.{ComparePromise}
 use Rattle.compare.specs.declared.CompareAnswer.{CompareAnswer}
 use Rattle.compare.specs.declared.CompareAnswer.the-variants as Compare
-use Rattle.viewer.specs.Packing.{packed}
+use Rattle.calls.specs.Packing.{packed}
 
 -- a lent number before and after a call
 pub record Lent : Type 0 where
@@ -80,21 +84,44 @@ pub record PropertyShown (chart sheet : List ℕ) (word count rounds : Lent) (co
   pub count-is : count .after ≡ countLeft (count .before) answer
   pub rounds-is : rounds .after ≡ roundsLeft (rounds .before) answer
 
--- ---- short form
+-- ---- bytes in a lent buffer: short form, and reasons
 
-abbrev pub formCode : LentAnswer → ℕ
-formCode (Written length) = 0
-formCode (Refused r) = packed r
+abbrev pub writtenCode : LentAnswer → ℕ
+writtenCode (Written length) = 0
+writtenCode (Refused r) = packed r
 
 abbrev pub writtenLeft : ℕ → LentAnswer → ℕ
 writtenLeft old (Written length) = length
 writtenLeft old (Refused r) = old
 
-pub record ShortFormShown (chart sheet : List ℕ) (name : ℕ) (old new : List ℕ) (written : Lent) (code : ℕ) : Type 0 where
+-- Promise is what the question promises of the lent bytes before and after, and of the answer
+pub record WrittenShown (Promise : List ℕ → List ℕ → LentAnswer → Type 0) (old new : List ℕ) (written : Lent) (code : ℕ) : Type 0 where
   pub answer : LentAnswer
-  pub promised : ShortFormPromise chart sheet name old new answer
-  pub code-is : code ≡ formCode answer
+  pub promised : Promise old new answer
+  pub code-is : code ≡ writtenCode answer
   pub written-is : written .after ≡ writtenLeft (written .before) answer
+
+abbrev pub ShortFormShown : List ℕ → List ℕ → ℕ → List ℕ → List ℕ → Lent → ℕ → Type 0
+ShortFormShown chart sheet name = WrittenShown (ShortFormPromise chart sheet name)
+
+abbrev pub ReasonsShown : List ℕ → List ℕ → List ℕ → Lent → ℕ → Type 0
+ReasonsShown chart = WrittenShown (ReasonsPromise chart)
+
+-- ---- the check of a list of reasons
+
+abbrev pub checkCode : CheckAnswer → ℕ
+checkCode (Check.Accepted lines) = 0
+checkCode (Check.Refused r) = packed r
+
+abbrev pub linesLeft : ℕ → CheckAnswer → ℕ
+linesLeft old (Check.Accepted lines) = lines
+linesLeft old (Check.Refused r) = old
+
+pub record CheckShown (chart list : List ℕ) (lines : Lent) (code : ℕ) : Type 0 where
+  pub answer : CheckAnswer
+  pub promised : CheckPromise chart list answer
+  pub code-is : code ≡ checkCode answer
+  pub lines-is : lines .after ≡ linesLeft (lines .before) answer
 
 -- ---- compare
 

@@ -22,15 +22,21 @@ use Rattle.lent.specs.declared.LentAnswer.the-variants.{Written, Refused}
 use Rattle.lent.proofs.Lent.{not-written}
 use Rattle.short_form.specs.Promise.{ShortFormPromise}
 use Rattle.short_form.proofs.Promise.{short-form-determined}
+use Rattle.reasons.specs.Promise.{ReasonsPromise}
+use Rattle.reasons.proofs.Promise.{reasons-determined}
+use Rattle.check_reasons.specs.Promise.{CheckPromise}
+use Rattle.check_reasons.specs.declared.CheckAnswer.{CheckAnswer}
+use Rattle.check_reasons.specs.declared.CheckAnswer.the-variants as Check
+use Rattle.check_reasons.proofs.Promise.{check-determined}
 use Rattle.compare.specs.Promise.{ComparePromise}
 use Rattle.compare.specs.declared.CompareAnswer.{CompareAnswer}
 use Rattle.compare.specs.declared.CompareAnswer.the-variants as Compare
 use Rattle.compare.proofs.Determined.{not-compared, compare-determined}
-use Rattle.viewer.specs.Packing.{packed, Parts}
-use Rattle.viewer.specs.Shown.{Lent, matrixCode, MarksShown, SimulationShown, propertyCode, PropertyShown, formCode, ShortFormShown, compareCode, CompareShown}
-use Rattle.viewer.specs.Told.{Told}
-use Rattle.viewer.proofs.Packing.{Packable, packed-some, packing}
-use Rattle.viewer.proofs.Packable.{matrix-packable, property-packable, short-form-packable, compare-packable}
+use Rattle.calls.specs.Packing.{packed, Parts}
+use Rattle.calls.specs.Shown.{Lent, matrixCode, MarksShown, SimulationShown, propertyCode, PropertyShown, writtenCode, ShortFormShown, ReasonsShown, checkCode, CheckShown, compareCode, CompareShown}
+use Rattle.calls.specs.Told.{Told}
+use Rattle.calls.proofs.Packing.{Packable, packed-some, packing}
+use Rattle.calls.proofs.Packable.{matrix-packable, property-packable, short-form-packable, reasons-packable, check-packable, compare-packable}
 
 -- ---- what all share
 
@@ -87,7 +93,7 @@ property-told chart sheet word count rounds code x =
 
 -- ---- short form
 
-written-or-refused : {code : ℕ} (a : LentAnswer) → code ≡ formCode a → Coded Written Refused a code
+written-or-refused : {code : ℕ} (a : LentAnswer) → code ≡ writtenCode a → Coded Written Refused a code
 written-or-refused (Written length) e = inl (length, refl, e)
 written-or-refused (Refused r) e = inr (r, refl, e)
 
@@ -96,6 +102,27 @@ pub short-form-told : (chart sheet : List ℕ) (name : ℕ) (old new : List ℕ)
 short-form-told chart sheet name old new written code x =
     told (λ s t p q. short-form-determined chart sheet name old p q .0) (short-form-packable chart sheet name old new) (λ length r e. not-written (sym e))
     (x .answer) (x .promised) (written-or-refused (x .answer) (x .code-is))
+
+-- ---- reasons, and the check of a list
+
+pub reasons-told : (chart old new : List ℕ) (written : Lent) (code : ℕ) → ReasonsShown chart old new written code
+    → Told Written Refused (ReasonsPromise chart old new) code
+reasons-told chart old new written code x =
+    told (λ s t p q. reasons-determined chart old new new s t p q .0) (reasons-packable chart old new) (λ length r e. not-written (sym e))
+    (x .answer) (x .promised) (written-or-refused (x .answer) (x .code-is))
+
+accepted-or-refused : {code : ℕ} (a : CheckAnswer) → code ≡ checkCode a → Coded Check.Accepted Check.Refused a code
+accepted-or-refused (Check.Accepted lines) e = inl (lines, refl, e)
+accepted-or-refused (Check.Refused r) e = inr (r, refl, e)
+
+not-accepted : (lines : ℕ) (r : Refusal) → Check.Accepted lines ≡ Check.Refused r → ⊥
+not-accepted lines r e = let z : _≡_ {A = ℕ} 0 1 = cc in omega arith
+
+pub check-told : (chart list : List ℕ) (lines : Lent) (code : ℕ) → CheckShown chart list lines code
+    → Told Check.Accepted Check.Refused (CheckPromise chart list) code
+check-told chart list lines code x =
+    told (check-determined chart list) (check-packable chart list) not-accepted
+    (x .answer) (x .promised) (accepted-or-refused (x .answer) (x .code-is))
 
 -- ---- compare
 

@@ -3,7 +3,7 @@ use Prim.Native.Nat.{ℕ}
 use mathlib.Core.Path.{_≡_}
 use mathlib.Core.Logic.{_↔_}
 use Rattle.refusal.specs.declared.Refusal.{Refusal}
-use Rattle.viewer.specs.Packing.{Parts}
+use Rattle.calls.specs.Packing.{Parts}
 
 -- an answer is given or refused; Promise is what the question promises of it
 pub record Told {A G : Type 0} (given : G → A) (refused : Refusal → A) (Promise : A → Type 0) (code : ℕ) : Type 0 where

@@ -7,8 +7,11 @@ use Rattle.marks.proofs.Promise.{marks-determined}
 use Rattle.simulation.proofs.Promise.{simulation-determined}
 use Rattle.property.proofs.Promise.{property-determined}
 use Rattle.short_form.proofs.Promise.{short-form-determined}
+use Rattle.lent.specs.declared.LentAnswer.{LentAnswer}
+use Rattle.reasons.proofs.Promise.{reasons-determined}
+use Rattle.check_reasons.proofs.Promise.{check-determined}
 use Rattle.compare.proofs.Determined.{compare-determined}
-use Rattle.viewer.specs.Shown.{lent, matrixCode, matrixStates, matrixRounds, MatrixShown, MarksShown, SimulationShown, propertyCode, wordLeft, countLeft, roundsLeft, PropertyShown, formCode, writtenLeft, ShortFormShown, compareCode, compareWritten, compareRounds, CompareShown}
+use Rattle.calls.specs.Shown.{lent, matrixCode, matrixStates, matrixRounds, MatrixShown, MarksShown, SimulationShown, propertyCode, wordLeft, countLeft, roundsLeft, PropertyShown, writtenCode, writtenLeft, WrittenShown, ShortFormShown, ReasonsShown, checkCode, linesLeft, CheckShown, compareCode, compareWritten, compareRounds, CompareShown}
 
 -- what follows from equal answers
 along : {A : Type 0} (f : A → ℕ) {x y : A} {m n : ℕ} → x ≡ y → m ≡ f x → n ≡ f y → m ≡ n
@@ -41,12 +44,31 @@ property-shown-determined chart sheet w w₁ w₂ n n₁ n₂ r r₁ r₂ c₁ c
     let e = property-determined chart sheet _ _ (x .promised) (y .promised) in
     (along propertyCode e (x .code-is) (y .code-is), along (wordLeft w) e (x .word-is) (y .word-is), along (countLeft n) e (x .count-is) (y .count-is), along (roundsLeft r) e (x .rounds-is) (y .rounds-is))
 
+written-shown-determined : {Promise : List ℕ → List ℕ → LentAnswer → Type 0}
+    → ((old a b : List ℕ) (s t : LentAnswer) → Promise old a s → Promise old b t → (s ≡ t) × (a ≡ b))
+    → (old a b : List ℕ) (w w₁ w₂ c₁ c₂ : ℕ)
+    → WrittenShown Promise old a (lent w w₁) c₁ → WrittenShown Promise old b (lent w w₂) c₂
+    → (a ≡ b) × (c₁ ≡ c₂) × (w₁ ≡ w₂)
+written-shown-determined determined old a b w w₁ w₂ c₁ c₂ x y =
+    let e = determined old a b _ _ (x .promised) (y .promised) in
+    (e .1, along writtenCode (e .0) (x .code-is) (y .code-is), along (writtenLeft w) (e .0) (x .written-is) (y .written-is))
+
 pub short-form-shown-determined : (chart sheet : List ℕ) (name : ℕ) (old a b : List ℕ) (w w₁ w₂ c₁ c₂ : ℕ)
     → ShortFormShown chart sheet name old a (lent w w₁) c₁ → ShortFormShown chart sheet name old b (lent w w₂) c₂
     → (a ≡ b) × (c₁ ≡ c₂) × (w₁ ≡ w₂)
-short-form-shown-determined chart sheet name old a b w w₁ w₂ c₁ c₂ x y =
-    let e = short-form-determined chart sheet name old (x .promised) (y .promised) in
-    (e .1, along formCode (e .0) (x .code-is) (y .code-is), along (writtenLeft w) (e .0) (x .written-is) (y .written-is))
+short-form-shown-determined chart sheet name = written-shown-determined (λ old a b s t p q. short-form-determined chart sheet name old p q)
+
+pub reasons-shown-determined : (chart old a b : List ℕ) (w w₁ w₂ c₁ c₂ : ℕ)
+    → ReasonsShown chart old a (lent w w₁) c₁ → ReasonsShown chart old b (lent w w₂) c₂
+    → (a ≡ b) × (c₁ ≡ c₂) × (w₁ ≡ w₂)
+reasons-shown-determined chart = written-shown-determined (reasons-determined chart)
+
+pub check-shown-determined : (chart list : List ℕ) (l l₁ l₂ c₁ c₂ : ℕ)
+    → CheckShown chart list (lent l l₁) c₁ → CheckShown chart list (lent l l₂) c₂
+    → (c₁ ≡ c₂) × (l₁ ≡ l₂)
+check-shown-determined chart list l l₁ l₂ c₁ c₂ x y =
+    let e = check-determined chart list _ _ (x .promised) (y .promised) in
+    (along checkCode e (x .code-is) (y .code-is), along (linesLeft l) e (x .lines-is) (y .lines-is))
 
 pub compare-shown-determined : (first second old a b : List ℕ) (w w₁ w₂ r r₁ r₂ c₁ c₂ : ℕ)
     → CompareShown first second old a (lent w w₁) (lent r r₁) c₁ → CompareShown first second old b (lent w w₂) (lent r r₂) c₂
