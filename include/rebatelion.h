@@ -9,7 +9,7 @@
  *
  * WHAT IS LENT
  *
- * - Inputs (chart, sheet, second chart) are a pointer and a length. They are read during the call only and never written.
+ * - Inputs (chart, sheet, second chart, list) are a pointer and a length. They are read during the call only and never written.
  * - A buffer is a pointer and a length. An answer fills its start; the bytes after that stay as they were.
  * - A number is a pointer to one aligned uint64_t, never null. An answer is written there.
  * - Everything lent must stay in place until the call returns, and may be freed or reused from then on: no pointer is kept.
@@ -26,9 +26,10 @@
  *
  * A refused call has written nothing: every buffer and every number is as it was. The macros below take the value apart.
  *
- * Input: 0 the chart, of two the first; 1 the sheet; 2 the buffer or the name, or two charts together; 3 the second chart.
+ * Input: 0 the chart, of two the first; 1 the sheet or the list; 2 the buffer or the name, or two charts together; 3 the second
+ * chart.
  * Place: the byte at fault, counted from 0, unless said otherwise. In 6 and 7, and in no other refusal, it is the number of the
- * triple at fault, counted from 0; their input is 0 or 3.
+ * triple at fault, counted from 0; their input is 0 or 3. In 21 it is the number of the line at fault, counted from 0.
  * Byte: in 6 the byte within that triple: 0 its source, 1 its action, 2 its target. In every other refusal 0.
  *
  * In the file, the byte of a 6, and the first byte of a 7's triple, is number 4 + n + m + 3 * place + byte, counted from 0, where
@@ -55,6 +56,7 @@
  *     18  two charts have more than 64 states together; place: 0
  *     19  two charts have more than 32 distinct action codes; place: 0
  *     20  two charts have more than 1,024 transitions together; place: 0
+ *     21  a line of a list of reasons is bad or incomplete; place: the number of the first such line
  */
 #ifndef REBATELION_H
 #define REBATELION_H
@@ -78,6 +80,7 @@ extern "C" {
 #define REBATELION_MAX_SHEET 402
 #define REBATELION_MATRIX (REBATELION_MAX_STATES * REBATELION_MAX_STATES)
 #define REBATELION_MAX_COMPARISON 67
+#define REBATELION_MAX_REASONS 20160
 
 /* The marks of all pairs of states (strong bisimulation).
  *
@@ -137,6 +140,36 @@ uint64_t rebatelion_short_form(const uint8_t *chart, size_t chart_len, const uin
  * together, and 14 where the buffer is shorter than the list. */
 uint64_t rebatelion_compare(const uint8_t *first, size_t first_len, const uint8_t *second, size_t second_len, uint8_t *buffer,
                             size_t buffer_len, uint64_t *written, uint64_t *rounds);
+
+/* Why states are unequal: a list of moves, from which a formula can be read that tells each pair apart.
+ *
+ * A line has five bytes: p, q, side, action, target. It says that state p is not state q. The action is its number in the chart,
+ * from 0; its code stands in chart[2 + n + action]. Side 0: p steps by the action to target, and the line relies on the pairs
+ * (target, u), for each state u that q reaches by that action. Side 1: q steps by the action to target, and the line relies on
+ * the pairs (u, target), for each state u that p reaches by it. Where nothing answers, the line relies on no pair. It spells a
+ * formula that is true at p and false at q: side 0 a diamond by the action over the "and" of what the pairs spell that it relies
+ * on, and true where there are none; side 1 a box by the action over their "or", and false where there are none.
+ *
+ * The list has one line for each ordered pair of states that are not bisimilar, so that p, q and q, p are two lines; they rise by
+ * mark, then by p, then by q. Each relies only on pairs whose marks are smaller than its own, all of which are listed earlier; of
+ * the moves that do, it has the first by side, then by action, then by target. The depth of the formula is the mark.
+ * The list fills the start of the buffer, and *written is its length, 5 bytes for each line, 0 where all states are bisimilar; a
+ * buffer of REBATELION_MAX_REASONS bytes is always long enough.
+ *
+ * Refuses what is wrong with the chart; then 14 where the buffer is shorter than the list. */
+uint64_t rebatelion_reasons(const uint8_t *chart, size_t chart_len, uint8_t *buffer, size_t buffer_len, uint64_t *written);
+
+/* Whether a list of such lines, chosen and ordered in any way, tells every pair apart that it has.
+ *
+ * The list is any bytes. A line is good if p and q are states; its side is 0 or 1; its move is a step of the chart, from p on side
+ * 0 and from q on side 1; every pair that it relies on is that of an earlier line; and its own pair is not. The list is accepted
+ * if every line is good, and every pair that it has is then told apart by the formula that its lines spell. It need not have
+ * every unequal pair, and an empty list is accepted. What rebatelion_reasons writes is accepted.
+ * Answers the number of lines in *lines.
+ *
+ * Refuses what is wrong with the chart; then 21, with input 1, where a line is bad or, at the end, has 1 to 4 bytes only. */
+uint64_t rebatelion_check_reasons(const uint8_t *chart, size_t chart_len, const uint8_t *list, size_t list_len,
+                                  uint64_t *lines);
 
 #ifdef __cplusplus
 }

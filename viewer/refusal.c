@@ -11,3 +11,13 @@ void print_refusal(uint64_t refusal) {
 int is_of_triple(uint64_t refusal) { return REBATELION_NUMBER(refusal) == 6 || REBATELION_NUMBER(refusal) == 7; }
 
 void print_triple(uint64_t refusal) { printf("triple %lu, byte %u", REBATELION_PLACE(refusal), REBATELION_BYTE(refusal)); }
+
+int show_refusal(uint64_t refusal) {
+    print_refusal(refusal);
+    if (is_of_triple(refusal)) {
+        printf(": ");
+        print_triple(refusal);
+    }
+    printf("\n");
+    return 1;
+}

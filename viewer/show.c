@@ -11,16 +11,6 @@ static uint8_t chart[REBATELION_MAX_CHART + 1];
 static uint8_t sheet[REBATELION_MAX_SHEET + 1];
 static size_t chart_len, sheet_len;
 
-static int refused(uint64_t refusal) {
-    print_refusal(refusal);
-    if (is_of_triple(refusal)) {
-        printf(": ");
-        print_triple(refusal);
-    }
-    printf("\n");
-    return 1;
-}
-
 /* A row for each state p and a column for each state q, both with their number and their mode code. */
 static void grid(const uint8_t *cells, unsigned states, int zeros) {
     printf("       ");
@@ -45,7 +35,7 @@ static int show_marks(void) {
     static uint8_t cells[REBATELION_MATRIX];
     uint64_t states, rounds;
     uint64_t refusal = rebatelion_marks(chart, chart_len, cells, sizeof cells, &states, &rounds);
-    if (refusal != 0) return refused(refusal);
+    if (refusal != 0) return show_refusal(refusal);
     printf("states %" PRIu64 "\n\nmarks, rounds %" PRIu64 " (0: equal; else the depth that tells the two apart)\n", states, rounds);
     grid(cells, (unsigned)states, 1);
     return 0;
@@ -55,7 +45,7 @@ static int show_simulation(void) {
     static uint8_t cells[REBATELION_MATRIX];
     uint64_t states, rounds;
     uint64_t refusal = rebatelion_simulation(chart, chart_len, cells, sizeof cells, &states, &rounds);
-    if (refusal != 0) return refused(refusal);
+    if (refusal != 0) return show_refusal(refusal);
     printf("\nsimulation, rounds %" PRIu64 " (1: the column's state simulates the row's)\n", rounds);
     grid(cells, (unsigned)states, 0);
     return 0;
@@ -64,7 +54,7 @@ static int show_simulation(void) {
 static int show_property(void) {
     uint64_t word, count, rounds;
     uint64_t refusal = rebatelion_property(chart, chart_len, sheet, sheet_len, &word, &count, &rounds);
-    if (refusal != 0) return refused(refusal);
+    if (refusal != 0) return show_refusal(refusal);
     printf("satisfying %" PRIu64 " of %u, rounds %" PRIu64 ", word %" PRIu64 "\n", count, chart[0], rounds, word);
     for (unsigned s = 0; s < chart[0]; s++)
         if (word >> s & 1) printf("  %2u %02x\n", s, chart[1 + s]);
@@ -76,7 +66,7 @@ static int make_form(uint64_t name) {
     static uint8_t made[REBATELION_MAX_SHEET];
     uint64_t written;
     uint64_t refusal = rebatelion_short_form(chart, chart_len, sheet, sheet_len, name, made, sizeof made, &written);
-    if (refusal != 0) return refused(refusal);
+    if (refusal != 0) return show_refusal(refusal);
     printf("short form %" PRIu64 ", %" PRIu64 " bytes:", name, written);
     for (size_t i = 0; i < written; i++) printf(" %02x", sheet[i] = made[i]);
     printf("\n");

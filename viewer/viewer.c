@@ -1,5 +1,5 @@
-/* Shows charts as the bench does. Each question has a file: show.c, compare.c. A chart whose name is a question's word is named
- * with its folder, as ./compare.
+/* Shows charts as the bench does. Each question has a file: show.c, compare.c, why.c, check.c. A chart whose name is a question's
+ * word is named with its folder, as ./compare.
  *
  * tests/run builds it as tests/target/viewer. By hand, on x86-64, in the project's root:
  *     rt staticlib viewer
@@ -14,9 +14,11 @@
 #include <stdlib.h>
 #include <string.h>
 
-static int usage(void) {
+int usage(void) {
     fputs("usage: viewer CHART [SHEET [FORM]]    marks, simulation, and the states that satisfy a sheet or its short form\n"
-          "       viewer compare OLD NEW         the states of either chart without a partner in the other\n",
+          "       viewer compare OLD NEW         the states of either chart without a partner in the other\n"
+          "       viewer why CHART [P Q]         the moves that tell unequal states apart, or the formula of states P and Q\n"
+          "       viewer check CHART LIST        whether a list of such moves is accepted, or which line is bad\n",
           stderr);
     return 2;
 }
@@ -29,9 +31,21 @@ static int read_number(const char *word, uint64_t *number) {
     return word[0] >= '0' && word[0] <= '9' && *end == '\0' && errno == 0;
 }
 
+static int ask_why(int argc, char **argv) {
+    uint64_t pair[2];
+    if (argc != 3 && argc != 5) return usage();
+    if (argc == 5 && !(read_number(argv[3], &pair[0]) && read_number(argv[4], &pair[1]))) {
+        fprintf(stderr, "viewer: P and Q are numbers\n");
+        return usage();
+    }
+    return why(argv[2], argc == 5 ? pair : NULL);
+}
+
 /* The question that the words ask, and its status. */
 static int ask(int argc, char **argv) {
     if (argc >= 2 && strcmp(argv[1], "compare") == 0) return argc == 4 ? compare(argv[2], argv[3]) : usage();
+    if (argc >= 2 && strcmp(argv[1], "why") == 0) return ask_why(argc, argv);
+    if (argc >= 2 && strcmp(argv[1], "check") == 0) return argc == 4 ? check(argv[2], argv[3]) : usage();
     if (argc < 2 || argc > 4) return usage();
     uint64_t form;
     if (argc == 4 && !read_number(argv[3], &form)) {

@@ -34,6 +34,8 @@ mod raw {
             written: &mut u64,
             rounds: &mut u64,
         ) -> u64;
+        pub fn rebatelion_reasons(c: *const u8, cn: usize, b: *mut u8, bn: usize, written: &mut u64) -> u64;
+        pub fn rebatelion_check_reasons(c: *const u8, cn: usize, l: *const u8, ln: usize, lines: &mut u64) -> u64;
     }
 }
 
@@ -78,4 +80,18 @@ pub fn compare(first: &[u8], second: &[u8], buffer: &mut [u8]) -> Option<(u64, u
     // SAFETY: slices of these lengths
     let code = unsafe { raw::rebatelion_compare(c, first.len(), s, second.len(), b, buffer.len(), &mut written, &mut rounds) };
     (code == 0).then_some((written, rounds))
+}
+
+pub fn reasons(chart: &[u8], buffer: &mut [u8]) -> Option<u64> {
+    let mut written = 0;
+    // SAFETY: slices of these lengths
+    let code = unsafe { raw::rebatelion_reasons(chart.as_ptr(), chart.len(), buffer.as_mut_ptr(), buffer.len(), &mut written) };
+    (code == 0).then_some(written)
+}
+
+pub fn check_reasons(chart: &[u8], list: &[u8]) -> Option<u64> {
+    let mut lines = 0;
+    // SAFETY: slices of these lengths
+    let code = unsafe { raw::rebatelion_check_reasons(chart.as_ptr(), chart.len(), list.as_ptr(), list.len(), &mut lines) };
+    (code == 0).then_some(lines)
 }

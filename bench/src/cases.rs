@@ -15,6 +15,8 @@ pub const SIMULATION: Asked = Asked { question: "simulation", same: 2.0, words: 
 pub const PROPERTY: Asked = Asked { question: "property", same: 2.0, words: None };
 pub const SHORT_FORM: Asked = Asked { question: "short form", same: 2.0, words: None };
 pub const COMPARE: Asked = Asked { question: "compare", same: 2.0, words: Some(3.0) };
+pub const REASONS: Asked = Asked { question: "reasons", same: 2.0, words: Some(3.0) };
+pub const CHECK: Asked = Asked { question: "check", same: 2.0, words: Some(3.0) };
 
 /// Numbers that look random and are the same in every run (splitmix64).
 pub struct Random(pub u64);
@@ -69,6 +71,13 @@ pub fn chain(n: usize) -> Vec<u8> {
 /// A ring, one of whose steps bears another action.
 pub fn ring(n: usize) -> Vec<u8> {
     chart(n, 2, (0..n).map(|s| (s, (s == n - 1) as usize, (s + 1) % n)))
+}
+
+/// 64 states in a ring of so many classes, each state with a step to every one of the next class: those of a class are equal. The steps
+/// of one class bear another action.
+pub fn ring_of_classes(classes: usize) -> Vec<u8> {
+    let next = |s: usize| (0..64).filter(move |t| t % classes == (s + 1) % classes);
+    chart(64, 2, (0..64).flat_map(|s| next(s).map(move |t| (s, (s % classes == classes - 1) as usize, t))))
 }
 
 /// Two rings that differ in one step: the first has action 1 at one state only, the second at every state but one.

@@ -104,7 +104,7 @@ pub fn words(first: &[u8], second: &[u8], buffer: &mut [u8]) -> Option<(u64, u64
         }
     }
     let mut list = [0; 67];
-    let (near, rounds) = split(&steps, |p, fallen, k| {
+    let (near, rounds) = split(&steps, |p, fallen, k, _| {
         if p == 0 && fallen >> n1 & 1 == 1 {
             list[0] = k;
         }

@@ -6,6 +6,7 @@ mod archive;
 mod cases;
 mod compare;
 mod read;
+mod reasons;
 mod same_shape;
 mod short_form;
 mod words;
@@ -160,12 +161,56 @@ fn compare(first: &[u8], second: &[u8]) -> (u64, [f64; 3]) {
     (answers[0].1, times)
 }
 
+/// Our list.
+fn our_list(chart: &[u8]) -> Vec<u8> {
+    let mut room = vec![9; reasons::LONGEST];
+    let length = archive::reasons(chart, &mut room).expect("a good chart");
+    room.truncate(length as usize);
+    room
+}
+
+/// The times of our list in a buffer of this length.
+fn reasons(chart: &[u8], length: usize) -> [f64; 3] {
+    let calls = [archive::reasons, reasons::same_shape, reasons::words];
+    let mut buffers = [(); 3].map(|_| vec![9; length]);
+    let lengths: Vec<u64> = (0..3).map(|i| calls[i](chart, &mut buffers[i]).expect("a good chart")).collect();
+    assert!(lengths.iter().all(|&k| k == lengths[0]) && buffers[1] == buffers[0] && buffers[2] == buffers[0], "they differ");
+    let [b0, b1, b2] = &mut buffers;
+    time([
+        &mut || {
+            black_box(calls[0](black_box(chart), b0));
+        },
+        &mut || {
+            black_box(calls[1](black_box(chart), b1));
+        },
+        &mut || {
+            black_box(calls[2](black_box(chart), b2));
+        },
+    ])
+}
+
+fn check(chart: &[u8], list: &[u8]) -> [f64; 3] {
+    let calls = [archive::check_reasons, reasons::check_same_shape, reasons::check_words];
+    assert!(calls.iter().all(|call| call(chart, list) == Some(list.len() as u64 / 5)), "they differ");
+    time([
+        &mut || {
+            black_box(calls[0](black_box(chart), black_box(list)));
+        },
+        &mut || {
+            black_box(calls[1](black_box(chart), black_box(list)));
+        },
+        &mut || {
+            black_box(calls[2](black_box(chart), black_box(list)));
+        },
+    ])
+}
+
 const MARKS: [Matrix; 3] = [archive::marks, same_shape::marks, words::marks];
 const SIMULATION: [Matrix; 3] = [archive::simulation, same_shape::simulation, words::simulation];
 
-/// Marks and simulation of each chart.
-fn matrices(above: &mut Vec<String>) {
-    let charts = [
+/// The charts that are taken whole, by name.
+fn charts() -> [(&'static str, Vec<u8>); 7] {
+    [
         ("E", cases::e()),
         ("64 states, 32 actions, 1,024 triples, drawn", cases::drawn(64, 32, 1024)),
         ("64 states, 2 actions, 1,024 triples, drawn", cases::drawn(64, 2, 1024)),
@@ -173,7 +218,12 @@ fn matrices(above: &mut Vec<String>) {
         ("chain of 64", cases::chain(64)),
         ("ring of 64", cases::ring(64)),
         ("rings of 31 and 33", cases::two_rings(31, 33)),
-    ];
+    ]
+}
+
+/// Marks and simulation of each chart.
+fn matrices(above: &mut Vec<String>) {
+    let charts = charts();
     for (asked, calls) in [(cases::MARKS, MARKS), (cases::SIMULATION, SIMULATION)] {
         for (case, chart) in &charts {
             let (rounds, times) = matrix(chart, calls);
@@ -219,6 +269,40 @@ fn pairs(above: &mut Vec<String>) {
     }
 }
 
+/// The rounds of a chart's marks.
+fn rounds(chart: &[u8]) -> String {
+    words::marks(chart, &mut [0; 4096]).expect("a good chart").to_string()
+}
+
+/// The reasons of each chart in a buffer for any list; and in one that has room for this list alone, where some states are equal: then
+/// the archive has to work elsewhere.
+fn lists(above: &mut Vec<String>) {
+    for (case, chart) in &charts() {
+        row(above, &cases::REASONS, case, &rounds(chart), reasons(chart, reasons::LONGEST));
+    }
+    for (case, chart) in [
+        ("ring of 32 classes of 2, no room to spare", cases::ring_of_classes(32)),
+        ("ring of 4 classes of 16, no room to spare", cases::ring_of_classes(4)),
+    ] {
+        let length = our_list(&chart).len();
+        assert!(length < reasons::LONGEST, "no equal states");
+        row(above, &cases::REASONS, case, &rounds(&chart), reasons(&chart, length));
+    }
+}
+
+/// The check of these lists, and of some turned round, which are mostly of side 1.
+fn checks(above: &mut Vec<String>) {
+    for (case, chart) in &charts() {
+        row(above, &cases::CHECK, case, &rounds(chart), check(chart, &our_list(chart)));
+    }
+    for (case, chart) in
+        [("64 states, 32 actions, 1,024 triples, side 1", cases::drawn(64, 32, 1024)), ("ring of 64, side 1", cases::ring(64))]
+    {
+        let list = reasons::turned_round(&our_list(&chart));
+        row(above, &cases::CHECK, case, &rounds(&chart), check(&chart, &list));
+    }
+}
+
 /// The table of all cases; what is above what is asked.
 fn beside_rust() -> Vec<String> {
     let mut above = Vec::new();
@@ -229,6 +313,8 @@ fn beside_rust() -> Vec<String> {
     matrices(&mut above);
     sheets(&mut above);
     pairs(&mut above);
+    lists(&mut above);
+    checks(&mut above);
     above
 }
 

@@ -5,12 +5,12 @@
 use crate::read::{self, Shape};
 
 /// The triples, sorted.
-fn triples(chart: &[u8], shape: Shape) -> &[[u8; 3]] {
+pub fn triples(chart: &[u8], shape: Shape) -> &[[u8; 3]] {
     chart[shape.at..].as_chunks().0
 }
 
 /// The steps of each state: a range of the triples.
-fn sources(triples: &[[u8; 3]], n: usize) -> [&[[u8; 3]]; 64] {
+pub fn sources(triples: &[[u8; 3]], n: usize) -> [&[[u8; 3]]; 64] {
     let mut of: [&[[u8; 3]]; 64] = [&[]; 64];
     let mut rest = triples;
     for (s, steps) in of[..n].iter_mut().enumerate() {
@@ -76,13 +76,17 @@ fn over_pairs(chart: &[u8], buffer: &mut [u8], work: impl FnOnce(&[&[[u8; 3]]], 
 /// The rounds.
 #[inline(never)]
 pub fn marks(chart: &[u8], buffer: &mut [u8]) -> Option<u64> {
-    over_pairs(chart, buffer, |steps, cells| {
-        let mut k = 0;
-        while round(steps, true, (k + 1) as u8, cells) {
-            k += 1;
-        }
-        k
-    })
+    over_pairs(chart, buffer, marks_of)
+}
+
+/// The rounds, from the steps of each state; the cells are all 0.
+#[inline(always)]
+pub fn marks_of(steps: &[&[[u8; 3]]], cells: &mut [u8]) -> u64 {
+    let mut k = 0;
+    while round(steps, true, (k + 1) as u8, cells) {
+        k += 1;
+    }
+    k
 }
 
 /// The rounds. While it works a cell is 0 in the relation, 1 out of it since this round, 2 for longer.

@@ -3,7 +3,7 @@
 use crate::read::{self, Shape};
 
 /// The members of a set.
-fn members(mut set: u64) -> impl Iterator<Item = usize> {
+pub fn members(mut set: u64) -> impl Iterator<Item = usize> {
     std::iter::from_fn(move || {
         if set == 0 {
             return None;
@@ -24,7 +24,7 @@ pub struct Steps {
 }
 
 impl Steps {
-    fn new(chart: &[u8], shape: Shape) -> Steps {
+    pub fn new(chart: &[u8], shape: Shape) -> Steps {
         let mut steps = Steps::none(shape.n, shape.m);
         for triple in chart[shape.at..].chunks_exact(3) {
             steps.add(triple[0] as usize, triple[1] as usize, triple[2] as usize);
@@ -43,7 +43,7 @@ impl Steps {
         self.from[m * n + target] |= 1 << source;
     }
 
-    fn to(&self, a: usize, s: usize) -> u64 {
+    pub fn to(&self, a: usize, s: usize) -> u64 {
         self.to[a * self.n + s]
     }
 
@@ -52,7 +52,7 @@ impl Steps {
     }
 
     /// The states with an a-step into the set.
-    fn reaching(&self, a: usize, set: u64) -> u64 {
+    pub fn reaching(&self, a: usize, set: u64) -> u64 {
         members(set).fold(0, |so_far, s| so_far | self.from(a, s))
     }
 
@@ -68,8 +68,8 @@ impl Steps {
 
 /// Rounds of splitting: two states stay together where they have the same steps into every block. Only the blocks that the last
 /// round made can split any further, and only states that are not alone in theirs. What falls from a state's block is told, with
-/// the round. Answers the blocks and the rounds.
-pub fn split(steps: &Steps, mut falls: impl FnMut(usize, u64, u8)) -> ([u64; 64], u64) {
+/// the round and the blocks before it. Answers the blocks and the rounds.
+pub fn split(steps: &Steps, mut falls: impl FnMut(usize, u64, u8, &[u64; 64])) -> ([u64; 64], u64) {
     let all = read::all(steps.n);
     let mut near = [all; 64];
     let mut made = vec![all];
@@ -91,7 +91,7 @@ pub fn split(steps: &Steps, mut falls: impl FnMut(usize, u64, u8)) -> ([u64; 64]
         for p in members(open) {
             let fallen = before[p] & !near[p];
             if fallen != 0 {
-                falls(p, fallen, rounds + 1);
+                falls(p, fallen, rounds + 1, &before);
                 if near[p].trailing_zeros() as usize == p {
                     made.push(near[p]);
                 }
@@ -113,7 +113,7 @@ pub fn marks(chart: &[u8], buffer: &mut [u8]) -> Option<u64> {
     let shape = read::chart(chart)?;
     let n = shape.n;
     buffer.get_mut(..n * n)?.fill(0);
-    let (_, rounds) = split(&Steps::new(chart, shape), |p, fallen, k| {
+    let (_, rounds) = split(&Steps::new(chart, shape), |p, fallen, k, _| {
         for q in members(fallen) {
             buffer[p * n + q] = k;
         }

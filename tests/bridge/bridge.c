@@ -6,17 +6,17 @@
 #include <stdlib.h>
 
 /* the lent parts, in the order of their rooms */
-enum { CHART, SHEET, SECOND, BUFFER, PARTS };
+enum { CHART, SHEET, SECOND, LIST, BUFFER, PARTS };
 
 /* a frame's first words: the question, the name, which parts are null, the margin, a length for each part, three numbers */
 enum { QUESTION, NAME, NULLS, MARGIN, LENGTHS, NUMBERS = LENGTHS + PARTS, WORDS = NUMBERS + 3 };
 
 /* Puts the answer in the place of the question; 0 where there is no such question. */
 static int answer(uint64_t w[WORDS], uint8_t *part[PARTS]) {
-    const uint8_t *chart = part[CHART], *sheet = part[SHEET], *second = part[SECOND];
+    const uint8_t *chart = part[CHART], *sheet = part[SHEET], *second = part[SECOND], *list = part[LIST];
     uint8_t *buffer = part[BUFFER];
     size_t chart_len = w[LENGTHS + CHART], sheet_len = w[LENGTHS + SHEET], second_len = w[LENGTHS + SECOND];
-    size_t buffer_len = w[LENGTHS + BUFFER];
+    size_t list_len = w[LENGTHS + LIST], buffer_len = w[LENGTHS + BUFFER];
     uint64_t *n = w + NUMBERS;
     switch (w[QUESTION]) {
     case 0: w[QUESTION] = rebatelion_marks(chart, chart_len, buffer, buffer_len, n, n + 1); return 1;
@@ -24,6 +24,8 @@ static int answer(uint64_t w[WORDS], uint8_t *part[PARTS]) {
     case 2: w[QUESTION] = rebatelion_property(chart, chart_len, sheet, sheet_len, n, n + 1, n + 2); return 1;
     case 3: w[QUESTION] = rebatelion_short_form(chart, chart_len, sheet, sheet_len, w[NAME], buffer, buffer_len, n); return 1;
     case 4: w[QUESTION] = rebatelion_compare(chart, chart_len, second, second_len, buffer, buffer_len, n, n + 1); return 1;
+    case 5: w[QUESTION] = rebatelion_reasons(chart, chart_len, buffer, buffer_len, n); return 1;
+    case 6: w[QUESTION] = rebatelion_check_reasons(chart, chart_len, list, list_len, n); return 1;
     default: return 0;
     }
 }

@@ -200,6 +200,78 @@ static void compare(void) {
     EXPECT_KEPT();
 }
 
+/* L's list of reasons: 2 rests and the others do not; 0 and 1 are told apart by the step from 1 to 2 */
+static const uint8_t l_reasons[] = {0, 2, 0, 0, 0, 1, 2, 0, 0, 1, 2, 0, 1, 0, 0,
+                                    2, 1, 1, 0, 1, 0, 1, 1, 0, 2, 1, 0, 0, 0, 2};
+
+static void reasons(void) {
+    const uint8_t alone[] = {1, 0, 0, 0, 0};
+    asked = "reasons";
+    for (size_t length = sizeof l_reasons; length <= LENT; length += LENT - sizeof l_reasons) {
+        fill();
+        EXPECT(rebatelion_reasons(l, sizeof l, buffer, length, &x), 0);
+        EXPECT(x, sizeof l_reasons);
+        EXPECT(y, KEPT);
+        EXPECT_BYTES(buffer, l_reasons, sizeof l_reasons);
+        EXPECT_BYTES(buffer + sizeof l_reasons, before + sizeof l_reasons, LENT - sizeof l_reasons);
+    }
+    /* one state alone: an empty list, which needs no buffer */
+    fill();
+    EXPECT(rebatelion_reasons(alone, sizeof alone, NULL, 0, &x), 0);
+    EXPECT(x, 0);
+    EXPECT(rebatelion_check_reasons(alone, sizeof alone, NULL, 0, &x), 0);
+    EXPECT(x, 0);
+
+    fill();
+    EXPECT_REFUSED(rebatelion_reasons(NULL, 0, NULL, 0, &x), 0, 1, 0, 0);
+    EXPECT_KEPT();
+    EXPECT_REFUSED(rebatelion_reasons(e, sizeof e - 1, NULL, 0, &x), 0, 1, 33, 0);
+    EXPECT_KEPT();
+    EXPECT_REFUSED(rebatelion_reasons(l, sizeof l, NULL, 0, &x), 2, 14, 0, 0);
+    EXPECT_KEPT();
+    EXPECT_REFUSED(rebatelion_reasons(l, sizeof l, buffer, sizeof l_reasons - 1, &x), 2, 14, 0, 0);
+    EXPECT_KEPT();
+    EXPECT_REFUSED(rebatelion_reasons(e, sizeof e, buffer, LENT, &x), 2, 14, 0, 0);
+    EXPECT_KEPT();
+}
+
+/* L's list, each part of it, and a list of other moves in another order; what is bad, by the line's number */
+static void check_reasons(void) {
+    const uint8_t other[] = {2, 0, 1, 0, 0, 1, 0, 0, 0, 2}, itself[] = {0, 2, 0, 0, 0, 0, 1, 0, 0, 0};
+    uint8_t twice[sizeof l_reasons + 5];
+    asked = "check reasons";
+    for (size_t length = 0; length <= sizeof l_reasons; length++) {
+        fill();
+        if (length % 5 == 0) {
+            EXPECT(rebatelion_check_reasons(l, sizeof l, l_reasons, length, &x), 0);
+            EXPECT(x, length / 5);
+            EXPECT(y, KEPT);
+            continue;
+        }
+        EXPECT_REFUSED(rebatelion_check_reasons(l, sizeof l, l_reasons, length, &x), 1, 21, length / 5, 0);
+        EXPECT_KEPT();
+    }
+    EXPECT(rebatelion_check_reasons(l, sizeof l, other, sizeof other, &x), 0);
+    EXPECT(x, 2);
+
+    fill();
+    EXPECT_REFUSED(rebatelion_check_reasons(l, sizeof l, other + 5, 5, &x), 1, 21, 0, 0);
+    EXPECT_KEPT();
+    EXPECT_REFUSED(rebatelion_check_reasons(l, sizeof l, itself, sizeof itself, &x), 1, 21, 1, 0);
+    EXPECT_KEPT();
+    memcpy(twice, l_reasons, sizeof l_reasons);
+    memcpy(twice + sizeof l_reasons, l_reasons, 5);
+    EXPECT_REFUSED(rebatelion_check_reasons(l, sizeof l, twice, sizeof twice, &x), 1, 21, 6, 0);
+    EXPECT_KEPT();
+    /* a chart is no list, and its faults come first */
+    EXPECT_REFUSED(rebatelion_check_reasons(l, sizeof l, l, sizeof l, &x), 1, 21, 0, 0);
+    EXPECT_KEPT();
+    EXPECT_REFUSED(rebatelion_check_reasons(l, sizeof l - 1, l, sizeof l, &x), 0, 1, 16, 0);
+    EXPECT_KEPT();
+    EXPECT_REFUSED(rebatelion_check_reasons(NULL, 0, NULL, 0, &x), 0, 1, 0, 0);
+    EXPECT_KEPT();
+}
+
 /* every call about this chart refuses it so, of two charts also as the second, and leaves everything as it was */
 static void line(const uint8_t *chart, size_t length, unsigned number, unsigned long place, unsigned byte) {
     const uint8_t f[] = {1, 2, 1, 1};
@@ -217,6 +289,10 @@ static void line(const uint8_t *chart, size_t length, unsigned number, unsigned 
     EXPECT_REFUSED(rebatelion_compare(l, sizeof l, chart, length, buffer, LENT, &x, &y), 3, number, place, byte);
     EXPECT_KEPT();
     EXPECT_REFUSED(rebatelion_compare(chart, length, chart, length, buffer, LENT, &x, &y), 0, number, place, byte);
+    EXPECT_KEPT();
+    EXPECT_REFUSED(rebatelion_reasons(chart, length, buffer, LENT, &x), 0, number, place, byte);
+    EXPECT_KEPT();
+    EXPECT_REFUSED(rebatelion_check_reasons(chart, length, f, sizeof f, &x), 0, number, place, byte);
     EXPECT_KEPT();
 }
 
@@ -354,17 +430,54 @@ static void longest_lists(void) {
     EXPECT_KEPT();
 }
 
+/* the longest list of reasons: a chain of 64 states, all of which are unequal; accepted, and a line too many is not */
+static void longest_reasons(void) {
+    enum { ALL = 64 * 63, BYTES = REBATELION_MAX_REASONS };
+    static uint8_t list[BYTES + 5];
+    uint8_t chain[4 + 64 + 1 + 3 * 63], *at = chain;
+    asked = "longest reasons";
+    EXPECT(REBATELION_MAX_REASONS, 5 * ALL);
+    *at++ = 64;
+    for (int i = 0; i < 64; i++) *at++ = (uint8_t)i;
+    for (int i = 0; i < 4; i++) *at++ = (uint8_t[]){1, 7, 63, 0}[i];
+    for (int i = 0; i < 63; i++) {
+        *at++ = (uint8_t)i;
+        *at++ = 0;
+        *at++ = (uint8_t)(i + 1);
+    }
+    fill();
+    EXPECT_REFUSED(rebatelion_reasons(chain, sizeof chain, list, BYTES - 1, &x), 2, 14, 0, 0);
+    EXPECT_KEPT();
+    EXPECT(rebatelion_reasons(chain, sizeof chain, list, BYTES, &x), 0);
+    EXPECT(x, BYTES);
+    /* 63 rests, which tells it from each other; 0 and 1 are told apart last */
+    EXPECT_BYTES(list, ((const uint8_t[]){0, 63, 0, 0, 1}), 5);
+    EXPECT_BYTES(list + BYTES - 10, ((const uint8_t[]){0, 1, 0, 0, 1, 1, 0, 0, 0, 2}), 10);
+    EXPECT(rebatelion_check_reasons(chain, sizeof chain, list, BYTES, &x), 0);
+    EXPECT(x, ALL);
+    fill();
+    EXPECT_REFUSED(rebatelion_check_reasons(chain, sizeof chain, list, BYTES + 5, &x), 1, 21, ALL, 0);
+    EXPECT_KEPT();
+    EXPECT_REFUSED(rebatelion_check_reasons(chain, sizeof chain, list, BYTES + 1, &x), 1, 21, ALL, 0);
+    EXPECT_KEPT();
+    EXPECT_REFUSED(rebatelion_check_reasons(chain, sizeof chain, list, BYTES - 1, &x), 1, 21, ALL - 1, 0);
+    EXPECT_KEPT();
+}
+
 int main(void) {
     marks();
     simulation();
     property();
     short_form();
     compare();
+    reasons();
+    check_reasons();
     lines();
     longest();
     longest_lines();
     longest_sheets();
     longest_lists();
+    longest_reasons();
     printf(wrong ? "calls from C FAILED\n" : "calls from C passed\n");
     return wrong;
 }

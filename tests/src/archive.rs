@@ -11,10 +11,19 @@ pub enum Question {
     Property = 2,
     ShortForm = 3,
     Compare = 4,
+    Reasons = 5,
+    CheckReasons = 6,
 }
 
-pub const QUESTIONS: [Question; 5] =
-    [Question::Marks, Question::Simulation, Question::Property, Question::ShortForm, Question::Compare];
+pub const QUESTIONS: [Question; 7] = [
+    Question::Marks,
+    Question::Simulation,
+    Question::Property,
+    Question::ShortForm,
+    Question::Compare,
+    Question::Reasons,
+    Question::CheckReasons,
+];
 
 /// Bytes before and after a lent part.
 pub const MARGIN: usize = 32;
@@ -55,6 +64,8 @@ pub struct Call {
     pub chart: Room,
     pub sheet: Room,
     pub second: Room,
+    /// A list of reasons that is handed in.
+    pub list: Room,
     pub buffer: Room,
     pub numbers: [u64; 3],
 }
@@ -70,7 +81,7 @@ mod linked {
     type Out = *mut u8;
     type Number = *mut u64;
 
-    // cn, sn and bn are the lengths of chart, sheet or second chart, and buffer
+    // cn, sn, ln and bn are the lengths of chart, sheet or second chart, list, and buffer
     extern "C" {
         fn rebatelion_marks(chart: In, cn: usize, buffer: Out, bn: usize, states: Number, rounds: Number) -> u64;
         fn rebatelion_simulation(chart: In, cn: usize, buffer: Out, bn: usize, states: Number, rounds: Number) -> u64;
@@ -95,6 +106,8 @@ mod linked {
             written: Number,
             rounds: Number,
         ) -> u64;
+        fn rebatelion_reasons(chart: In, cn: usize, buffer: Out, bn: usize, written: Number) -> u64;
+        fn rebatelion_check_reasons(chart: In, cn: usize, list: In, ln: usize, lines: Number) -> u64;
     }
 
     pub struct Archive;
@@ -114,6 +127,7 @@ mod linked {
             let (chart, chart_len) = lent(&mut call.chart);
             let (sheet, sheet_len) = lent(&mut call.sheet);
             let (second, second_len) = lent(&mut call.second);
+            let (list, list_len) = lent(&mut call.list);
             let (buffer, buffer_len) = lent(&mut call.buffer);
             let [a, b, c] = &mut call.numbers;
             // SAFETY: the prototypes are those of include/rebatelion.h; each part lies in its own room, and a null one is empty
@@ -126,6 +140,8 @@ mod linked {
                         rebatelion_short_form(chart, chart_len, sheet, sheet_len, call.name, buffer, buffer_len, a)
                     }
                     Question::Compare => rebatelion_compare(chart, chart_len, second, second_len, buffer, buffer_len, a, b),
+                    Question::Reasons => rebatelion_reasons(chart, chart_len, buffer, buffer_len, a),
+                    Question::CheckReasons => rebatelion_check_reasons(chart, chart_len, list, list_len, a),
                 }
             }
         }
@@ -162,9 +178,9 @@ mod bridged {
         }
 
         /// A frame goes there, and the same frame comes back with the answer in its first word: the question or the code,
-        /// the name, which parts are null, the margin, four lengths, three numbers, four rooms.
+        /// the name, which parts are null, the margin, five lengths, three numbers, five rooms.
         pub fn call(&mut self, call: &mut Call) -> u64 {
-            let rooms = [&mut call.chart, &mut call.sheet, &mut call.second, &mut call.buffer];
+            let rooms = [&mut call.chart, &mut call.sheet, &mut call.second, &mut call.list, &mut call.buffer];
             let frame = &mut self.frame;
             frame.clear();
             let nulls = rooms.iter().enumerate().map(|(i, room)| (room.null as u64) << i).sum();
@@ -176,16 +192,16 @@ mod bridged {
                 frame.extend(&room.bytes);
             }
             if let Err(e) = self.to.write_all(frame).and_then(|_| self.from.read_exact(frame)) {
-                let [chart, sheet, second, _] = rooms.map(|room| room.part().to_vec());
+                let [chart, sheet, second, list, _] = rooms.map(|room| room.part().to_vec());
                 panic!(
                     "the archive's program ended within a call: {e}\n\
-                     {:?}, chart {chart:02x?}, sheet {sheet:02x?}, second {second:02x?}",
+                     {:?}, chart {chart:02x?}, sheet {sheet:02x?}, second {second:02x?}, list {list:02x?}",
                     call.question
                 );
             }
             let word = |i: usize| u64::from_le_bytes(frame[8 * i..8 * i + 8].try_into().unwrap());
-            call.numbers = [word(8), word(9), word(10)];
-            let mut at = 88;
+            call.numbers = [word(9), word(10), word(11)];
+            let mut at = 96;
             for room in rooms {
                 let length = room.bytes.len();
                 room.bytes.copy_from_slice(&frame[at..at + length]);

@@ -6,6 +6,7 @@ use crate::inputs::random::Random;
 use crate::lines;
 use crate::outcome::{difference, expected, Outcome};
 use crate::reference::short_form;
+use crate::spelled;
 use crate::tally::Tally;
 
 /// An input, and what stands in memory after it: a reader that goes past the end reads on there.
@@ -145,6 +146,25 @@ impl<'a> Checker<'a> {
         [self.pair(chart, other), self.pair(other, chart)]
     }
 
+    pub fn reasons<'b>(&mut self, chart: impl Into<Lent<'b>>, buffer: usize) -> Told {
+        let before = self.before(Question::Reasons, chart.into(), buffer);
+        self.ask_with(before)
+    }
+
+    pub fn check_reasons<'b, 'c>(&mut self, chart: impl Into<Lent<'b>>, list: impl Into<Lent<'c>>) -> Told {
+        let before = self.before(Question::CheckReasons, chart.into(), 0);
+        let list = self.room(list.into());
+        self.ask_with(Call { list, ..before })
+    }
+
+    /// The two questions about reasons: ours, with a buffer that is long enough for every list or any; and a list's check.
+    pub fn why<'b, 'c>(&mut self, chart: impl Into<Lent<'b>>, list: impl Into<Lent<'c>>) -> [Told; 2] {
+        let chart = chart.into();
+        let states = chart.bytes.first().map_or(0, |&n| n.min(64) as usize);
+        let buffer = self.length_near(5 * states * states.saturating_sub(1));
+        [self.reasons(chart, buffer), self.check_reasons(chart, list)]
+    }
+
     fn length_near(&mut self, exact: usize) -> usize {
         match self.random.below(16) {
             0 => exact.saturating_sub(1),
@@ -194,7 +214,8 @@ impl<'a> Checker<'a> {
         buffer.null = buffer.len() == 0 && self.random.once_in(2);
         let chart = self.room(chart);
         let numbers = [self.random.word(), self.random.word(), self.random.word()];
-        Call { question, name: 0, chart, sheet: Room::of(0), second: Room::of(0), buffer, numbers }
+        let [sheet, second, list] = [0; 3].map(Room::of);
+        Call { question, name: 0, chart, sheet, second, list, buffer, numbers }
     }
 
     fn ask(&mut self, question: Question, chart: Lent, sheet: Lent, name: u64, buffer: usize) -> Told {
@@ -207,7 +228,8 @@ impl<'a> Checker<'a> {
         let expected = expected(&before);
         let told = self.call(&before);
         self.tally.count(&expected);
-        match difference(&before, &expected, &told).or_else(|| lines::difference(&told)) {
+        let wrong = difference(&before, &expected, &told).or_else(|| lines::difference(&told));
+        match wrong.or_else(|| spelled::difference(&told)) {
             Some(wrong) => self.expect(false, || wrong),
             None => {
                 faults::try_all(&mut self.tally, self.job, &told, |altered| difference(&before, &expected, altered).is_some())

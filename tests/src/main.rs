@@ -18,6 +18,7 @@ mod outcome;
 mod parts;
 mod reach;
 mod reference;
+mod spelled;
 mod table;
 mod tally;
 

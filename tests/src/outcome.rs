@@ -4,7 +4,7 @@
 use crate::archive::{Call, Question, MARGIN};
 use crate::counts::{codes_together, Counts};
 use crate::reference::refusal::Refusal;
-use crate::reference::{compare, nearness, property, short_form};
+use crate::reference::{check_reasons, compare, nearness, property, reasons, short_form};
 use std::ops::Range;
 
 /// The code that a call returned, and all that was lent to it as it is afterwards.
@@ -110,12 +110,12 @@ impl Outcome {
         self.left.sheet.part().get(2).copied().unwrap_or(0) as usize
     }
 
-    /// The rounds of an answer; a short form has none.
+    /// The rounds of an answer; a short form has none, and neither have reasons.
     pub fn rounds(&self) -> u64 {
         match self.left.question {
             Question::Marks | Question::Simulation => self.left.numbers[1],
             Question::Property => self.left.numbers[2],
-            Question::ShortForm => 0,
+            Question::ShortForm | Question::Reasons | Question::CheckReasons => 0,
             Question::Compare => self.left.numbers[1],
         }
     }
@@ -124,9 +124,18 @@ impl Outcome {
     pub fn filled(&self) -> usize {
         match self.left.question {
             Question::Marks | Question::Simulation => self.states().pow(2),
-            Question::Property => 0,
-            Question::ShortForm | Question::Compare => self.left.numbers[0] as usize,
+            Question::Property | Question::CheckReasons => 0,
+            Question::ShortForm | Question::Compare | Question::Reasons => self.left.numbers[0] as usize,
         }
+    }
+
+    /// The whole lines of reasons: of an answer those in the buffer, and of a list that is handed in those of the list.
+    pub fn reasons(&self) -> &[[u8; 5]] {
+        let list = match self.left.question {
+            Question::Reasons => &self.left.buffer.part()[..self.filled()],
+            _ => self.left.list.part(),
+        };
+        list.as_chunks().0
     }
 
     /// By how many bytes the buffer of an answer is longer than needed.
@@ -155,6 +164,8 @@ pub fn expected(before: &Call) -> Expected {
         Question::Compare => {
             compare::compare(chart, second, buffer).map(|c| numbers[..2].copy_from_slice(&[c.written, c.rounds]))
         }
+        Question::Reasons => reasons::reasons(chart, buffer).map(|written| numbers[0] = written),
+        Question::CheckReasons => check_reasons::check_reasons(chart, before.list.part()).map(|lines| numbers[0] = lines),
     };
     let refused = answer.err();
     Expected { refused, outcome: Outcome { code: refused.map_or(0, |r| r.packed()), left } }
@@ -169,11 +180,12 @@ fn describe(before: &Call, expected: &Expected, told: &Outcome) -> String {
     let hex = |bytes: &[u8]| bytes.iter().map(|b| format!("{b:02x}")).collect::<String>();
     let (was, is) = (&expected.outcome.left, &told.left);
     let mut out = format!(
-        "{:?}\n  chart  {}\n  sheet  {}\n  second {}\n  name   {}, buffer of {} bytes",
+        "{:?}\n  chart  {}\n  sheet  {}\n  second {}\n  list   {}\n  name   {}, buffer of {} bytes",
         before.question,
         hex(before.chart.part()),
         hex(before.sheet.part()),
         hex(before.second.part()),
+        hex(before.list.part()),
         before.name,
         before.buffer.len()
     );
@@ -194,6 +206,7 @@ fn describe(before: &Call, expected: &Expected, told: &Outcome) -> String {
         ("chart", &was.chart, &is.chart),
         ("sheet", &was.sheet, &is.sheet),
         ("second", &was.second, &is.second),
+        ("list", &was.list, &is.list),
         ("buffer", &was.buffer, &is.buffer),
     ] {
         if let Some(at) = was.bytes.iter().zip(&is.bytes).position(|(a, b)| a != b) {

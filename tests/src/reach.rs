@@ -1,11 +1,16 @@
 //! What must be reached in a run, beside the refusals of src/table.rs: every number of rounds where charts and formulas are as
 //! large as can be, every answer's size and every division of the limits between two charts, and buffers too long by thousands
-//! of bytes; and of faulty triples, for each question, every number and byte that they can have in small charts and in the longest.
+//! of bytes; of lists of reasons every length and depth, every line that can be bad or incomplete, and of their lines every answer
+//! that can decide and every choice among moves; and of faulty triples, for each question, every number and byte that they can
+//! have in small charts and in the longest.
 
-use crate::archive::Question::{self, Compare, Marks, Property, ShortForm, Simulation};
+use crate::archive::Question::{self, CheckReasons, Compare, Marks, Property, Reasons, ShortForm, Simulation};
 use crate::counts::{byte as byte_of, Counts};
 use crate::outcome::Outcome;
 use std::ops::RangeInclusive;
+
+mod moves;
+mod reasons;
 
 /// A question, and the input that its refusal names.
 type Asked = (Question, u64);
@@ -72,6 +77,8 @@ const EVERY_QUESTION: &[Option<Asked>] = &[
     Some((ShortForm, 0)),
     Some((Compare, 0)),
     Some((Compare, 3)),
+    Some((Reasons, 0)),
+    Some((CheckReasons, 0)),
 ];
 
 /// So many states, actions and triples a small chart has at the most.
@@ -181,8 +188,10 @@ pub fn by(outcome: &Outcome) -> impl Iterator<Item = Value> + '_ {
     let asked = (outcome.left.question, outcome.input());
     // an input that is no chart has no triples
     let of_a_chart = if outcome.code != 0 && [0, 3].contains(&asked.1) { OF_A_CHART } else { &[] };
-    let rows = ROWS.iter().map(|row| (row, None)).chain(of_a_chart.iter().map(move |row| (row, Some(asked))));
-    rows.filter_map(|((what, value, _), asked)| value(outcome).map(|value| (*what, asked, value)))
+    let of_reasons = if [Reasons, CheckReasons].contains(&asked.0) { reasons::ROWS } else { &[] };
+    let rows = ROWS.iter().chain(of_reasons).map(|row| (row, None)).chain(of_a_chart.iter().map(move |row| (row, Some(asked))));
+    let of_moves = moves::by(outcome).into_iter().map(|(what, value)| (what, None, value));
+    rows.filter_map(|((what, value, _), asked)| value(outcome).map(|value| (*what, asked, value))).chain(of_moves)
 }
 
 /// All that must be reached.
@@ -194,6 +203,7 @@ pub fn must() -> impl Iterator<Item = Value> {
 
 /// What is counted, of which questions, and how far it must go.
 pub fn rows() -> impl Iterator<Item = (&'static str, &'static [Option<Asked>], RangeInclusive<u64>)> {
-    let of_all = ROWS.iter().map(|(what, _, range)| (*what, [None].as_slice(), range.clone()));
+    let of_one = ROWS.iter().chain(reasons::ROWS).map(|(what, _, range)| (*what, range.clone()));
+    let of_all = of_one.chain(moves::rows()).map(|(what, range)| (what, [None].as_slice(), range));
     of_all.chain(OF_A_CHART.iter().map(|(what, _, range)| (*what, EVERY_QUESTION, range.clone())))
 }

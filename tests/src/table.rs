@@ -55,6 +55,31 @@ const OF_A_SHORT_FORM: &[Row] = &[(10, 2..=2, &["too many nodes in the result"])
 
 const OF_THE_BUFFER: &[Row] = &[(14, 0..=0, &["buffer"])];
 const OF_THE_NAME: &[Row] = &[(17, 0..=0, &["name"])];
+
+/// Of a list of reasons. Of 64 states 4,032 pairs can be told apart, so that a line after these is one too many.
+const OF_THE_LIST: &[Row] = &[(
+    21,
+    0..=4032,
+    &[
+        "p out of range",
+        "q out of range",
+        "side above 1",
+        "action out of range",
+        "target out of range",
+        "no step of the chart",
+        "the same line twice",
+        "the same pair by another move",
+        "a state with itself",
+        "relies on itself",
+        "relies on a later line",
+        "relies on a pair of no line",
+        "one byte of a line",
+        "two bytes",
+        "three bytes",
+        "four bytes",
+    ],
+)];
+
 const OF_TWO_CHARTS: &[Row] =
     &[(18, 0..=0, &["states together"]), (19, 0..=0, &["action codes together"]), (20, 0..=0, &["transitions together"])];
 
@@ -78,10 +103,11 @@ fn can_occur(question: Question) -> Vec<(Input, &'static Row)> {
         [(Input::Second, OF_A_CHART), (Input::BufferOrName, OF_TWO_CHARTS), (Input::BufferOrName, OF_THE_BUFFER)];
     let mut lists = vec![(Input::Chart, OF_A_CHART)];
     match question {
-        Question::Marks | Question::Simulation => lists.push((Input::BufferOrName, OF_THE_BUFFER)),
+        Question::Marks | Question::Simulation | Question::Reasons => lists.push((Input::BufferOrName, OF_THE_BUFFER)),
         Question::Property => lists.extend(of_the_sheet),
         Question::ShortForm => lists.extend(of_the_sheet.into_iter().chain(of_a_short_form)),
         Question::Compare => lists.extend(of_two_charts),
+        Question::CheckReasons => lists.push((Input::Sheet, OF_THE_LIST)),
     }
     lists.into_iter().flat_map(|(input, rows)| rows.iter().map(move |row| (input, row))).collect()
 }
@@ -90,8 +116,8 @@ fn can_occur(question: Question) -> Vec<(Input, &'static Row)> {
 type Counts = [u64; QUESTIONS.len()];
 
 fn row(title: &str, counts: Counts) {
-    let [a, b, c, d, e] = counts.map(|count| if count == 0 { "-".to_string() } else { count.to_string() });
-    println!("{title:<52}{a:>10}{b:>12}{c:>10}{d:>12}{e:>9}");
+    let [a, b, c, d, e, f, g] = counts.map(|count| if count == 0 { "-".to_string() } else { count.to_string() });
+    println!("{title:<52}{a:>10}{b:>12}{c:>10}{d:>12}{e:>9}{f:>9}{g:>15}");
 }
 
 /// The sum of those refusals of each question that are wanted.
@@ -108,11 +134,12 @@ fn different_inputs(tally: &Tally, question: Question) -> usize {
 
 /// Prints the counts.
 pub fn show(tally: &Tally) {
-    println!("{:<52}{:>10}{:>12}{:>10}{:>12}{:>9}", "", "marks", "simulation", "property", "short form", "compare");
+    let [a, b, c, d, e, f, g] = ["marks", "simulation", "property", "short form", "compare", "reasons", "check reasons"];
+    println!("{:<52}{a:>10}{b:>12}{c:>10}{d:>12}{e:>9}{f:>9}{g:>15}", "");
     row("asked", QUESTIONS.map(|q| tally.asked.get(&q).copied().unwrap_or(0)));
     row("different inputs", QUESTIONS.map(|q| different_inputs(tally, q) as u64));
     row("answered", QUESTIONS.map(|q| tally.answered.get(&q).copied().unwrap_or(0)));
-    for number in 1..=20 {
+    for number in 1..=21 {
         row(&format!("refused {number}"), refusals(tally, |n, _, _| n == number));
     }
 

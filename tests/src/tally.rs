@@ -35,7 +35,8 @@ impl Tally {
         let question = call.question;
         *self.asked.entry(question).or_default() += 1;
         let mut hasher = DefaultHasher::new();
-        (call.chart.part(), call.sheet.part(), call.second.part(), call.name, call.buffer.len()).hash(&mut hasher);
+        (call.chart.part(), call.sheet.part(), call.second.part(), call.list.part()).hash(&mut hasher);
+        (call.name, call.buffer.len()).hash(&mut hasher);
         self.inputs.insert((question, hasher.finish()));
         self.reached.extend(reach::by(&expected.outcome));
         match expected.refused {

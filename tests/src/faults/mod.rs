@@ -3,9 +3,11 @@
 //! the reference, as every answer does, and a fault of a triple's number or byte through the one against the file's bytes too. A
 //! fault that these do not notice fails the run, and so does one whose answers are never met.
 
+mod check_reasons;
 mod comparisons;
 mod lines;
 mod matrices;
+mod reasons;
 mod refusals;
 mod sheets;
 
@@ -24,7 +26,9 @@ pub struct Fault {
 }
 
 pub fn all() -> impl Iterator<Item = &'static Fault> {
-    [matrices::FAULTS, sheets::FAULTS, refusals::FAULTS, lines::FAULTS, comparisons::FAULTS].into_iter().flatten()
+    let of_one_chart = [matrices::FAULTS, sheets::FAULTS, refusals::FAULTS, lines::FAULTS];
+    let of_more = [comparisons::FAULTS, reasons::FAULTS, check_reasons::FAULTS];
+    of_one_chart.into_iter().chain(of_more).flatten()
 }
 
 pub fn named(name: &str) -> &'static Fault {

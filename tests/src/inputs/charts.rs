@@ -118,6 +118,25 @@ pub fn twins(r: &mut Random, half: usize, m: usize, t: usize) -> Chart {
     chart(r, 2 * half, m, steps)
 }
 
+/// Up to t steps between blocks of states: of two blocks that a small chart joins, each state of one steps to each of the other, or to
+/// most where these are too many. So states of a block are alike or nearly so, and steps have many answers.
+pub fn blocks(r: &mut Random, n: usize, m: usize, t: usize) -> Chart {
+    let b = r.within(2, 8);
+    let joined = r.within(b, b * m * b / 2);
+    let small = drawn(r, b, m, joined);
+    let block: Vec<usize> = (0..n).map(|_| r.below(b)).collect();
+    let of = |i: u8| block.iter().enumerate().filter(move |(_, &b)| b == i as usize).map(|(s, _)| s);
+    let all: Vec<_> = small
+        .steps
+        .iter()
+        .flat_map(|step| of(step.source).flat_map(move |s| of(step.target).map(move |u| (s, step.action as usize, u))))
+        .collect();
+    let mut order: Vec<usize> = (0..all.len()).collect();
+    r.shuffle(&mut order);
+    order.truncate(t);
+    chart(r, n, m, order.into_iter().map(|i| all[i]))
+}
+
 /// At most one step for each state and action.
 pub fn deterministic(r: &mut Random, n: usize, m: usize) -> Chart {
     let mut steps = Vec::new();

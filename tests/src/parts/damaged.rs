@@ -11,6 +11,7 @@ fn every_question<'a>(c: &mut Checker, chart: impl Into<Lent<'a>>, sheet: &[u8])
     let chart = chart.into();
     c.all(chart, sheet);
     c.beside(chart, &E);
+    c.why(chart, &[0, 1, 0, 0, 0]);
 }
 
 /// A chart: every cut, and at every byte `values` and its neighbours, a byte added and one taken away.

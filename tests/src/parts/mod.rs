@@ -8,6 +8,7 @@ pub mod forms;
 pub mod lines;
 pub mod order;
 pub mod places;
+pub mod reasons;
 pub mod rounds;
 pub mod sizes;
 pub mod small;
@@ -41,6 +42,7 @@ pub fn jobs() -> Vec<Job> {
         lines::jobs(),
         damaged::jobs(),
         comparison::jobs(),
+        reasons::jobs(),
         valid::jobs(),
         small::jobs(),
         definitions::jobs(),

@@ -16,6 +16,8 @@ fn all_refuse(c: &mut Checker, what: &str, chart: Lent, [number, place, byte]: [
     let [first, second] = c.beside(chart, &E);
     c.expect_refused(what, &first, (0, number, place, byte));
     c.expect_refused(what, &second, (3, number, place, byte));
+    let told = c.why(chart, &[0, 1, 0, 0, 0]);
+    told.iter().for_each(|told| c.expect_refused(what, told, (0, number, place, byte)));
 }
 
 /// All questions refuse the chart so, at a byte of the file.

@@ -5,7 +5,7 @@ use crate::checker::Checker;
 use crate::Job;
 
 /// Every string of `length` bytes from `letters`.
-fn strings<T>(letters: &[u8], length: usize, mut each: impl FnMut(&[u8]) -> T) {
+pub fn strings<T>(letters: &[u8], length: usize, mut each: impl FnMut(&[u8]) -> T) {
     let mut string = vec![0; length];
     for i in 0..letters.len().pow(length as u32) {
         let mut rest = i;
@@ -25,6 +25,7 @@ fn charts(c: &mut Checker, n: u8) {
             chart.extend(rest);
             c.matrices(&chart);
             c.beside(&chart, &L);
+            c.why(&chart, &[0, 1, 0, 0, 0]);
         });
     }
 }

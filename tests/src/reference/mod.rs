@@ -1,11 +1,13 @@
 //! Document 01 once more, written from its text alone: charts, sheets, their refusals and the four questions; and of document 02
-//! the comparison and the lines of faulty triples. It is made to be read beside the documents, and not to be fast. The checks
-//! hold the proved archive against it.
+//! the comparison, the lines of faulty triples, and the lists of reasons. It is made to be read beside the documents, and not to
+//! be fast. The checks hold the proved archive against it.
 
 pub mod chart;
+pub mod check_reasons;
 pub mod compare;
 pub mod nearness;
 pub mod property;
+pub mod reasons;
 pub mod refusal;
 pub mod settle;
 pub mod sheet;

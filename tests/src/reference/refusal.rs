@@ -3,6 +3,7 @@
 #[derive(Clone, Copy, PartialEq, Eq, PartialOrd, Ord, Debug)]
 pub enum Input {
     Chart = 0,
+    /// The sheet, or a list of reasons.
     Sheet = 1,
     BufferOrName = 2,
     /// The second of two charts.
