@@ -5,9 +5,7 @@ use mathlib.Core.List.{List}
 use native.Mathlib.Omega.{arith}
 use lib.ListN.{length, getD}
 use Rattle.sheet.specs.Formula.{Formula}
-use Rattle.sheet.specs.Reading.{nodeAt, Parsed, parsed, wrong, onParsed, operands, parse}
-use Rattle.sheet.specs.declared.Node.{Node}
-use Rattle.sheet.specs.declared.Node.the-variants.{Leaf, Two, One, Bad}
+use Rattle.sheet.specs.Reading.{Node, Leaf, Two, One, Bad, nodeAt, Parsed, parsed, wrong, onParsed, operands, parse}
 use Rattle.sheet.proofs.Found.{NodeFound, node-found}
 use Rattle.sheet.proofs.Parsing.{parse-none, parse-node}
 use Rattle.sheet.proofs.Written.{leaf-at, two-at}

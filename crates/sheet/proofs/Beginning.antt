@@ -1,6 +1,6 @@
 -- What the first bytes of a sheet say of the whole: a refusal other than 1 stands whatever follows, anything after a whole sheet is refused 8,
 -- and 403 bytes decide.
-use Prim.Native.Nat.{ℕ, zero, suc, _+_, _-_, _<_, _≤_}
+use Prim.Native.Nat.{ℕ, zero, suc, _+_, _*_, _-_, _<_, _≤_}
 use mathlib.Core.Path.{_≡_, refl, ap, sym, _∙_}
 use mathlib.Core.List.{List, _∷_, _++_}
 use mathlib.Core.Logic.{_⊎_, inl, inr}
@@ -14,11 +14,9 @@ use Rattle.refusal.specs.declared.Refusal.{Refusal}
 use Rattle.chart.proofs.Continued.{same-test, needed-byte, left-over}
 use Rattle.sheet.specs.Formula.{Formula}
 use Rattle.sheet.specs.Layout.{longestSheet}
-use Rattle.sheet.specs.Reading.{nodeAt, Parsed, parsed, wrong, onParsed, operands, parse}
+use Rattle.sheet.specs.Reading.{Node, Leaf, Two, One, Bad, nodeAt, Parsed, parsed, wrong, onParsed, operands, parse}
 use Rattle.sheet.specs.Reading.{Sheet, sheet, refused, ending, readNodes, readSheet}
-use Rattle.sheet.specs.declared.Node.{Node}
-use Rattle.sheet.specs.declared.Node.the-variants.{Leaf, Two, One, Bad}
-use Rattle.sheet.proofs.Found.{FaultBy, formula-found}
+use Rattle.sheet.proofs.Found.{FaultBy, formula-found, fault-found}
 use Rattle.sheet.proofs.Accepted.{layout-read, accepted-short, refusal-small}
 
 -- ---- a node, a formula: a needed byte is absent from s, or s is read as the whole is
@@ -151,6 +149,18 @@ first-bytes-decide s m k h = elim (decLe (length s) k) [ yes l ↦ ap (λ t. rea
         go q (inl (inl g)) = absurd (omega (arith, refusal-small (take k s) m _ g .absent-nearer refl))
         go q (inl (inr g)) = sym g ∙ ap (λ t. readSheet t m) (take-append-drop k s)
         go q (inr (kind, count, f, g, _)) = absurd (omega (arith, accepted-short (take k s) m kind count f g))
+
+-- and so do the first bytes of a formula, two for each node
+pub first-bytes-parse : (s : List ℕ) (m at left k : ℕ) → at + 2 * left ≤ k → parse left (take k s) m at left ≡ parse left s m at left
+first-bytes-parse s m at left k h = elim (decLe (length s) k) [ yes l ↦ ap (λ t. parse left t m at left) (take-all k s l) | no l ↦ longer (omega arith) ]
+  where
+    longer : k < length s → parse left (take k s) m at left ≡ parse left s m at left
+    longer l = go (length-take-le k s (omega arith)) (parse-kept left (take k s) (drop k s) m at left)
+      where
+        go : length (take k s) ≡ k → Kept wrong (take k s) (parse left (take k s) m at left) (parse left (take k s ++ drop k s) m at left)
+            → parse left (take k s) m at left ≡ parse left s m at left
+        go q (inl g) = absurd (omega (arith, fault-found left (take k s) m at left _ g .absent-nearer refl))
+        go q (inr g) = sym g ∙ ap (λ t. parse left t m at left) (take-append-drop k s)
 
 -- nothing before the place of a refusal is at fault: the bytes before it only break off. Before that of 8 stands a whole sheet, and 13 is said of all
 -- the nodes before it

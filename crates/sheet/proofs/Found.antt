@@ -15,11 +15,9 @@ use Rattle.refusal.specs.declared.Refusal.{Refusal}
 use Rattle.chart.proofs.Steps.{byte-then}
 use Rattle.sheet.specs.Formula.{Formula, variable, top, bottom, and, or, diamond, box, nodes}
 use Rattle.sheet.specs.Layout.{labelByte, formulaBytes, encode, LabelIn, LabelsIn, WellFormed}
-use Rattle.sheet.specs.Reading.{nodeAt, leafOf, twoOf, labelOf, oneOf, Parsed, parsed, wrong, onParsed, operands, parse}
+use Rattle.sheet.specs.Reading.{Node, Leaf, Two, One, Bad, nodeAt, leafOf, twoOf, labelOf, oneOf, Parsed, parsed, wrong, onParsed, operands, parse}
 use Rattle.sheet.specs.Reading.{Sheet, sheet, refused, ending, readNodes, readSheet}
 use Rattle.sheet.specs.Fault.{AtFault, absent, leftOver, equations, kind as kind-above, count as count-out, node as node-above, label, nodesRemain, nodesUsedUp}
-use Rattle.sheet.specs.declared.Node.{Node}
-use Rattle.sheet.specs.declared.Node.the-variants.{Leaf, Two, One, Bad}
 
 -- a refusal of the sheet, at most so far on, and nearer where a byte is absent: its number is 1, or 8 to 13; and, where what is read lies inside the
 -- sheet, what the number says is wrong there

@@ -8,9 +8,7 @@ use native.Mathlib.Omega.{arith}
 use borrow.Author.Tests.{eq-eqb, ne-eqb}
 use Rattle.refusal.specs.Refusal.{sheetRefusal}
 use Rattle.sheet.specs.Formula.{Formula}
-use Rattle.sheet.specs.Reading.{nodeAt, twoOf, Parsed, parsed, wrong, onParsed, operands, parse}
-use Rattle.sheet.specs.declared.Node.{Node}
-use Rattle.sheet.specs.declared.Node.the-variants.{Leaf, Two, One, Bad}
+use Rattle.sheet.specs.Reading.{Node, Leaf, Two, One, Bad, nodeAt, twoOf, Parsed, parsed, wrong, onParsed, operands, parse}
 use Rattle.sheet.proofs.Found.{formula-found}
 
 pub parse-none : (fuel : ℕ) (s : List ℕ) (m at left : ℕ) → left ≡ 0 → parse fuel s m at left ≡ wrong (sheetRefusal 13 at)

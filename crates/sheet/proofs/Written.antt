@@ -13,9 +13,7 @@ use Rattle.settle.specs.Test.{pick}
 use Rattle.chart.proofs.Steps.{first-byte}
 use Rattle.sheet.specs.Formula.{Label, only, every, Formula, variable, top, bottom, and, or, diamond, box, nodes}
 use Rattle.sheet.specs.Layout.{labelByte, formulaBytes, LabelIn, LabelsIn}
-use Rattle.sheet.specs.Reading.{nodeAt, leafOf, twoOf, labelOf, oneOf, parsed, parse}
-use Rattle.sheet.specs.declared.Node.{Node}
-use Rattle.sheet.specs.declared.Node.the-variants.{Leaf, Two, One}
+use Rattle.sheet.specs.Reading.{Node, Leaf, Two, One, nodeAt, leafOf, twoOf, labelOf, oneOf, parsed, parse}
 use Rattle.sheet.proofs.Parsing.{parse-node}
 
 -- ---- a node
@@ -28,7 +26,7 @@ pub two-at : (s : List ℕ) (m at node : ℕ) → at < length s → getD s at 0 
 unfolding nodeAt
 two-at s m at node h e k l = rw (e, lt-leb _ _ h, le-ltb _ _ k, lt-ltb _ _ l)
 
-one-at : (s : List ℕ) (m at node byte : ℕ) → at + 1 < length s → getD s at 0 ≡ node → 5 ≤ node → node ≤ 6
+pub one-at : (s : List ℕ) (m at node byte : ℕ) → at + 1 < length s → getD s at 0 ≡ node → 5 ≤ node → node ≤ 6
     → getD s (at + 1) 0 ≡ byte → (byte < m) ⊎ (byte ≡ 255) → nodeAt s m at ≡ One node byte (at + 2)
 unfolding nodeAt
 one-at s m at node byte h e k l d b =

@@ -1,6 +1,6 @@
 -- Reading a property sheet in document 01's order, each byte judged as read, 13 before 1, 8 and 11 at the same place. The number and the place
 -- of every refusal stand here; that a sheet is accepted exactly if it follows the layout is the law `accepted-exactly` of proofs/Accepted.antt.
-use Prim.Native.Nat.{ℕ, zero, suc, _+_, _-_, _≤_}
+use Prim.Native.Nat.{ℕ, zero, suc, _+_, _*_, _-_, _≤_}
 use mathlib.Core.Path.{_≡_}
 use mathlib.Core.List.{List}
 use mathlib.Core.Logic.{_↔_}
@@ -11,17 +11,19 @@ use Rattle.refusal.specs.Refusal.{sheetRefusal}
 use Rattle.refusal.specs.declared.Refusal.{Refusal}
 use Rattle.sheet.specs.Formula.{Label, only, every, Formula, variable, top, bottom, and, or, diamond, box, nodes}
 use Rattle.sheet.specs.Layout.{encode, WellFormed}
-use Rattle.sheet.specs.declared.Node.{Node}
-use Rattle.sheet.specs.declared.Node.the-variants.{Leaf, Two, One, Bad}
-use Rattle.sheet.specs.declared.FormulaRead.{FormulaRead}
 use Rattle.sheet.specs.declared.Outline.{Outline}
 use Rattle.sheet.specs.declared.SheetRead.{SheetRead}
 use Rattle.sheet.specs.declared.SheetRead.the-variants as Read
 
 -- ---- a node
 
--- the node at a place, with its action byte and the place after it: 1 where a byte is absent, 11 where the node is above 6, 12 where the action
--- is neither below m nor 255
+-- a node with its action byte, where it has one, and the place after it; or the refusal
+pub data Node : Type 0 where
+  Leaf Two : ℕ → ℕ → Node
+  One : ℕ → ℕ → ℕ → Node
+  Bad : Refusal → Node
+
+-- the node at a place: 1 where a byte is absent, 11 where the node is above 6, 12 where the action is neither below m nor 255
 unfoldable pub nodeAt : List ℕ → ℕ → ℕ → Node
 nodeAt s m at =
     pick (leb (length s) at) (Bad (sheetRefusal 1 (length s))) (
@@ -104,9 +106,11 @@ readSheet s m =
 
 -- ---- what the readers say of it, in numbers
 
-abbrev pub formulaRead : Parsed → FormulaRead
-formulaRead (parsed f at left) = record { fault = 0; at = at; left = left }
-formulaRead (wrong r) = record { fault = r .number; at = r .place; left = 0 }
+-- what is read of a formula as one number: the place after it, below 512, and 512 times the nodes still unread; or, above all of these, the refusal's
+-- number and 256 times its place
+abbrev pub packed : Parsed → ℕ
+packed (parsed f at left) = at + 512 * left
+packed (wrong r) = 131072 + (r .number + 256 * r .place)
 
 abbrev pub sheetRead : Sheet → SheetRead
 sheetRead (sheet kind count f) = Read.Sheet (record { kind = kind; nodes = count })

@@ -1,13 +1,22 @@
 use Prim.Native.Nat.{_≤_}
-use mathlib.Core.Path.{ap}
+use mathlib.Core.Path.{_≡_, ap}
 use native.Mathlib.Omega.{arith}
-use borrow.Author.Tests.{le-ltb, lt-ltb, le-leb, lt-leb, eq-eqb, ne-eqb}
+use lib.ListN.{getD}
+use borrow.Author.Tests.{le-ltb, lt-ltb, le-leb, lt-leb}
+use borrow.Author.Needs.{needs}
 use Rattle.sheet.specs.Reading.{readNodes}
 use Rattle.sheet.specs.declared.SheetRead.the-variants as Read
-use Rattle.sheet.proofs.Reading.{fault-few, ending-read}
-use borrow.Author.Needs.{needs}
+use Rattle.sheet.proofs.Beginning.{first-bytes-parse}
+use Rattle.sheet.proofs.Reading.{read, ending-read}
 use Rattle.sheet.proofs.read_nodes.Statement.{statement}
 use Rattle.sheet.proofs.read_nodes.Tie as tie
+
+-- the copy is read as the sheet is
+found : (c : tie.After-read-formula) → (let a = c .before .before .before .before .before .before .before .before .args in c .read-formula .result ≡ read (a .bytes .now) (a .m) 3 (getD (a .bytes .now) 2 0))
+found c =
+    let a = c .before .before .before .before .before .before .before .before .args in
+    let few : getD (a .bytes .now) 2 0 ≤ 200 = c .before .before .before .if3 .left in
+    rw (← first-bytes-parse (a .bytes .now) (a .m) 3 (getD (a .bytes .now) 2 0) 512 (omega arith), ← c .before .before .copy .ensures .1) (c .read-formula .ensures)
 
 of-sheet-requires : tie.Need-of-sheet-requires
 of-sheet-requires c κs = search needs
@@ -40,15 +49,14 @@ returns-3 c = rw (
   lt-ltb _ _ (c .before .if3 .taken),
 ) (ap Read.Refused (c .of-sheet3 .ensures))
 
+copy-requires : tie.Need-copy-requires
+copy-requires c κs = search needs
+
 read-formula-requires : tie.Need-read-formula-requires
 read-formula-requires c κs = search needs
 
 cast-of-sheet : tie.Need-cast-of-sheet
-cast-of-sheet c =
-    let a = c .before .before .before .before .before .before .before .before .before .args in
-    let found = c .before .before .before .read-formula in
-    let few : found .result .fault ≤ 13 = rw (found .ensures) (fault-few (a .bytes .now) (a .m) 3 _) in
-    omega arith
+cast-of-sheet c = search needs
 
 of-sheet-requires-4 : tie.Need-of-sheet-requires-4
 of-sheet-requires-4 c κs = search needs
@@ -59,9 +67,9 @@ returns-4 c = rw (
   lt-leb _ _ (c .before .before .before .before .before .before .before .before .if1 .left),
   le-ltb _ _ (c .before .before .before .before .before .before .if2 .left),
   le-ltb _ _ (c .before .before .before .before .before .if3 .left),
-  ending-read,
-  ← c .before .before .before .before .read-formula .ensures,
-  ne-eqb _ _ (c .before .before .if4 .taken),
+  ending-read _ _ _ _ (c .before .before .before .before .before .if3 .left),
+  ← found (c .before .before),
+  le-leb _ _ (c .before .if4 .taken),
 ) (ap Read.Refused (c .of-sheet4 .ensures))
 
 of-sheet-requires-5 : tie.Need-of-sheet-requires-5
@@ -73,9 +81,9 @@ returns-5 c = rw (
   lt-leb _ _ (c .before .before .before .before .before .before .before .before .before .if1 .left),
   le-ltb _ _ (c .before .before .before .before .before .before .before .if2 .left),
   le-ltb _ _ (c .before .before .before .before .before .before .if3 .left),
-  ending-read,
-  ← c .before .before .before .before .before .read-formula .ensures,
-  eq-eqb _ _ (c .before .before .before .if4 .left),
+  ending-read _ _ _ _ (c .before .before .before .before .before .before .if3 .left),
+  ← found (c .before .before .before),
+  lt-leb _ _ (c .before .before .if4 .left),
   lt-ltb _ _ (c .before .if5 .taken),
 ) (ap Read.Refused (c .of-sheet5 .ensures))
 
@@ -88,9 +96,9 @@ returns-6 c = rw (
   lt-leb _ _ (c .before .before .before .before .before .before .before .before .before .before .if1 .left),
   le-ltb _ _ (c .before .before .before .before .before .before .before .before .if2 .left),
   le-ltb _ _ (c .before .before .before .before .before .before .before .if3 .left),
-  ending-read,
-  ← c .before .before .before .before .before .before .read-formula .ensures,
-  eq-eqb _ _ (c .before .before .before .before .if4 .left),
+  ending-read _ _ _ _ (c .before .before .before .before .before .before .before .if3 .left),
+  ← found (c .before .before .before .before),
+  lt-leb _ _ (c .before .before .before .if4 .left),
   le-ltb _ _ (c .before .before .if5 .left),
   lt-ltb _ _ (c .before .if6 .taken),
 ) (ap Read.Refused (c .of-sheet6 .ensures))
@@ -101,9 +109,9 @@ returns-7 c = rw (
   lt-leb _ _ (c .before .before .before .before .before .before .before .before .before .if1 .left),
   le-ltb _ _ (c .before .before .before .before .before .before .before .if2 .left),
   le-ltb _ _ (c .before .before .before .before .before .before .if3 .left),
-  ending-read,
-  ← c .before .before .before .before .before .read-formula .ensures,
-  eq-eqb _ _ (c .before .before .before .if4 .left),
+  ending-read _ _ _ _ (c .before .before .before .before .before .before .if3 .left),
+  ← found (c .before .before .before),
+  lt-leb _ _ (c .before .before .if4 .left),
   le-ltb _ _ (c .before .if5 .left),
   le-ltb _ _ (c .if6 .left),
 )
@@ -120,6 +128,7 @@ read-nodes-spec =
     returns-2
     of-sheet-requires-3
     returns-3
+    copy-requires
     read-formula-requires
     cast-of-sheet
     of-sheet-requires-4
