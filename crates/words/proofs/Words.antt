@@ -158,6 +158,60 @@ word-ext (suc n) w h =
     top (suc zero) k = refl
     top (suc (suc x)) k = absurd (omega arith)
 
+-- no test above n adds to its word
+trimmed : (n k : ℕ) (P : ℕ → Bool) → n ≤ k → ((x : ℕ) → n ≤ x → P x ≡ false) → wordOf k P ≡ wordOf n P
+unfolding wordOf
+trimmed n zero P h none = let e : n ≡ 0 = omega arith in rw e
+trimmed n (suc k) P h none = go (trimmed n k P) (decLt k n)
+  where
+    go : (n ≤ k → ((x : ℕ) → n ≤ x → P x ≡ false) → wordOf k P ≡ wordOf n P) → Dec (k < n) → wordOf (suc k) P ≡ wordOf n P
+    go ih (yes l) = let e : n ≡ suc k = omega arith in rw e
+    go ih (no l) = let a : n ≤ k = omega arith in rw (none k a) (omega (arith, ih a none))
+
+-- a word of 64 bits whose members are those that pass, none from n on, is the word of the test
+pub word-of : (n w : ℕ) (P : ℕ → Bool) → n ≤ 64 → w < 2 ^ 64 → ((x : ℕ) → member w x ≡ P x) → ((x : ℕ) → n ≤ x → P x ≡ false) → w ≡ wordOf n P
+word-of n w P few h is none = sym (word-ext 64 w h) ∙ word-cong 64 _ _ (λ x l. is x) ∙ trimmed n 64 P few none
+
+-- ---- a set without another that lies in it
+
+without : (n : ℕ) (P Q : ℕ → Bool) → ((x : ℕ) → x < n → both (Q x) (P x) ≡ Q x) → wordOf n Q + wordOf n (λ x. both (P x) (neg (Q x))) ≡ wordOf n P
+unfolding wordOf both neg
+without zero P Q h = refl
+without (suc n) P Q h = go (P n) (Q n) (h n (omega arith)) (without n P Q (λ x l. h x (omega arith)))
+  where
+    go : (p q : Bool) → both q p ≡ q → wordOf n Q + wordOf n (λ x. both (P x) (neg (Q x))) ≡ wordOf n P
+        → bit q * 2 ^ n + wordOf n Q + (bit (both p (neg q)) * 2 ^ n + wordOf n (λ x. both (P x) (neg (Q x)))) ≡ bit p * 2 ^ n + wordOf n P
+    go true true e ih = omega arith
+    go true false e ih = omega arith
+    go false true e ih = absurd (omega (arith, ap bit e))
+    go false false e ih = omega arith
+
+-- what the difference of two words has, where the meet of both is the less
+pub minus-member : (n v w : ℕ) → v < 2 ^ n → w < 2 ^ n → bitAnd v w ≡ v → (v ≤ w) × ((x : ℕ) → member w x ≡ either (member v x) (member (w - v) x))
+unfolding both either neg
+minus-member n v w h k e = (omega (arith, sum), is)
+  where
+    inside : (x : ℕ) → x < n → both (member v x) (member w x) ≡ member v x
+    inside x l = sym (word-member n x (λ y. both (member v y) (member w y)) l) ∙ ap (λ (y : ℕ). member y x) (sym (and-word n (member v) (member w)) ∙ rw (word-ext n v h, word-ext n w k) e)
+
+    sum : v + wordOf n (λ x. both (member w x) (neg (member v x))) ≡ w
+    sum = rw (word-ext n v h, word-ext n w k) at (without n (member w) (member v) inside)
+
+    rest : w - v ≡ wordOf n (λ x. both (member w x) (neg (member v x)))
+    rest = omega (arith, sum)
+
+    either-or : (p q : Bool) → both q p ≡ q → p ≡ either q (both p (neg q))
+    either-or true true e = refl
+    either-or true false e = refl
+    either-or false true e = e
+    either-or false false e = refl
+
+    is : (x : ℕ) → member w x ≡ either (member v x) (member (w - v) x)
+    is x = elim (decLt x n) [
+      | yes l ↦ rw (rest, word-member n x (λ y. both (member w y) (neg (member v y))) l) (either-or (member w x) (member v x) (inside x l))
+      | no f ↦ let a : n ≤ x = omega arith in rw (no-member n w x k a, no-member n v x h a, no-member n (w - v) x (omega arith) a)
+    ]
+
 -- ---- how many, and the code's shift
 
 ones-bit : (b : Bool) (k : ℕ) → ones (bit b) + k ≡ tick b k

@@ -1,0 +1,4 @@
+pub mod Bits
+pub mod Leads
+pub mod Filling
+pub mod Determined
