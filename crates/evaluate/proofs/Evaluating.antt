@@ -1,79 +1,71 @@
 -- The value of a formula that was read, a node at a time.
 use Prim.Native.Nat.{ℕ, _+_, _-_, _<_, _≤_, _^_}
-use mathlib.Core.Path.{_≡_, refl, ap, sym, _∙_}
+use mathlib.Core.Path.{_≡_, refl, ap, _∙_}
 use mathlib.Core.Bool.{Bool, true, false}
-use mathlib.Core.List.{List, List·Memᴰ as Mem}
-use lib.Bits.{bitOr, bitAnd}
+use mathlib.Core.List.{List}
+use native.Mathlib.Omega.{arith}
+use lib.Bits.{bitOr, bitAnd, and-lt, or-lt}
 use lib.Pow.{pow-pos}
 use lib.Dec.{eqb}
 use lib.ListN.{getD}
 use Rattle.settle.specs.Test.{pick}
-use Rattle.chart.specs.Chart.{Step}
-use Rattle.chart.specs.Reading.{chartIn}
-use Rattle.chart.specs.declared.Shape.{Shape}
-use Rattle.chart.proofs.Accepted.{each-step}
 use Rattle.sheet.specs.Formula.{Formula, variable, top, bottom, and, or, diamond, box}
-use Rattle.sheet.specs.Meaning.{holds}
 use Rattle.sheet.specs.Reading.{nodeAt, leafOf, twoOf, labelOf, oneOf, Parsed, parsed, wrong, onParsed, operands, parse}
 use Rattle.sheet.proofs.Found.{formula-fewer}
 use Rattle.sheet.proofs.Parsing.{parse-node}
-use Rattle.words.specs.Words.{wordOf, member}
-use Rattle.words.proofs.Words.{word-none, word-cong, word-ext, word-member, word-lt, all-word, and-word, or-word}
-use Rattle.evaluate.specs.Evaluating.{ReadAs, reaches, keeps, leafWord, joinedWord, modalWord, WasRead, valueOf}
+use Rattle.words.proofs.Words.{word-lt}
+use Rattle.evaluate.specs.Evaluating.{rowOf, stepWord, boxWord, tableWord, leafWord, joinedWord, modalWord, WasRead, valueOf}
 use Rattle.evaluate.specs.declared.formula.Valued.{Valued}
-use Rattle.evaluate.proofs.Modal.{reach-cong, keep-cong, some-label, every-label}
 use Rattle.evaluate.proofs.Operands.{formula, first-was, some-left, operands-were, is-leaf, is-two, is-one, first-of-two, operand-was}
 
-abbrev valued : ℕ → ℕ → ℕ → Valued
+abbrev pub valued : ℕ → ℕ → ℕ → Valued
 valued w at left = record { word = w; after = at; rest = left }
 
-module _ (s : List ℕ) (sh : Shape) (e : ReadAs s sh) (set : ℕ) (small : set < 2 ^ sh .n) where
-  abbrev n : ℕ
-  n = sh .n
-
-  abbrev m : ℕ
-  m = sh .m
-
-  abbrev steps : List Step
-  steps = chartIn s sh .steps
-
+module _ (into : List ℕ) (n m set : ℕ) where
   abbrev word : Formula → ℕ
-  word f = wordOf n (holds m steps f (member set))
+  word f = tableWord into n f set
 
   leaf-word : (node : ℕ) → word (leafOf node) ≡ leafWord n node set
-  unfolding holds
+  unfolding tableWord
   leaf-word node = go (eqb node 0) (eqb node 1)
     where
       go : (x y : Bool) → word (pick x variable (pick y top bottom)) ≡ pick x set (pick y (2 ^ n - 1) 0)
-      go true y = word-ext n set small
-      go false true = all-word n
-      go false false = word-none n
+      go true y = refl
+      go false true = refl
+      go false false = refl
 
   joined-word : (node : ℕ) (f g : Formula) → word (twoOf node f g) ≡ joinedWord node (word f) (word g)
-  unfolding holds
+  unfolding tableWord
   joined-word node f g = go (eqb node 3)
     where
       go : (x : Bool) → word (pick x (and f g) (or f g)) ≡ pick x (bitAnd (word f) (word g)) (bitOr (word f) (word g))
-      go true = sym (and-word n _ _)
-      go false = sym (or-word n _ _)
+      go true = refl
+      go false = refl
 
-  modal-word : (node a : ℕ) (f : Formula) → word (oneOf node a f) ≡ modalWord n steps node a (word f)
-  unfolding holds
+  modal-word : (node a : ℕ) (f : Formula) → word (oneOf node a f) ≡ modalWord into n node a (word f)
+  unfolding tableWord
   modal-word node a f = go (eqb node 5)
     where
-      same : (u : Step) → Mem u steps → holds m steps f (member set) (u .target) ≡ member (word f) (u .target)
-      same u i = sym (word-member n (u .target) (holds m steps f (member set)) (each-step s sh e u i .target-in))
-
-      go : (x : Bool) → word (pick x (diamond (labelOf a) f) (box (labelOf a) f)) ≡ pick x (wordOf n (reaches steps a (member (word f)))) (wordOf n (keeps steps a (member (word f))))
-      go true = word-cong n _ _ (λ x l. some-label m steps (λ u i. each-step s sh e u i .action-in) a _ x ∙ reach-cong steps a _ _ same x)
-      go false = word-cong n _ _ (λ x l. every-label m steps (λ u i. each-step s sh e u i .action-in) a _ x ∙ keep-cong steps a _ _ same x)
+      go : (x : Bool) → word (pick x (diamond (labelOf a) f) (box (labelOf a) f)) ≡ pick x (stepWord into n (rowOf (labelOf a)) (word f)) (boxWord into n (rowOf (labelOf a)) (word f))
+      go true = refl
+      go false = refl
 
   abbrev val : Parsed → Valued
-  val = valueOf s sh (member set)
+  val = valueOf into n set
 
-  pub value-small : (u : Parsed) → val u .word < 2 ^ sh .n
-  value-small (parsed f at left) = word-lt n _
-  value-small (wrong r) = pow-pos n
+  pub word-below : set < 2 ^ n → (f : Formula) → word f < 2 ^ n
+  unfolding tableWord
+  word-below small variable = small
+  word-below small top = omega (arith, pow-pos n)
+  word-below small bottom = pow-pos n
+  word-below small (and f g) = and-lt n _ _ (word-below small f) (word-below small g)
+  word-below small (or f g) = or-lt n _ _ (word-below small f) (word-below small g)
+  word-below small (diamond l f) = word-lt n _
+  word-below small (box l f) = omega (arith, pow-pos n)
+
+  pub value-small : set < 2 ^ n → (u : Parsed) → val u .word < 2 ^ n
+  value-small small (parsed f at left) = word-below small f
+  value-small small (wrong r) = pow-pos n
 
   -- the second of two operands was read where both were
   second-was : (u : Parsed) (read : ℕ → ℕ → Parsed) (next : Formula → Formula → ℕ → ℕ → Parsed)
@@ -82,7 +74,7 @@ module _ (s : List ℕ) (sh : Shape) (e : ReadAs s sh) (set : ℕ) (small : set 
   second-was (wrong r) read next w = absurd w
 
   one-value : (u : Parsed) (node a : ℕ) → WasRead u
-      → val (onParsed u (λ f after rest. parsed (oneOf node a f) after rest)) ≡ valued (modalWord n steps node a (val u .word)) (val u .after) (val u .rest)
+      → val (onParsed u (λ f after rest. parsed (oneOf node a f) after rest)) ≡ valued (modalWord into n node a (val u .word)) (val u .after) (val u .rest)
   one-value (parsed f at left) node a w = ap (λ (x : ℕ). valued x at left) (modal-word node a f)
   one-value (wrong r) node a w = absurd w
 
@@ -97,12 +89,12 @@ module _ (s : List ℕ) (sh : Shape) (e : ReadAs s sh) (set : ℕ) (small : set 
   two-values (parsed f at left) read node w v = last-value (read at left) node f v
   two-values (wrong r) read node w v = absurd w
 
-  module _ (b : List ℕ) (at left : ℕ) (was : WasRead (parse left b (sh .m) at left)) where
+  module _ (b : List ℕ) (at left : ℕ) (was : WasRead (parse left b m at left)) where
     -- the value of the formula at a place
     abbrev value : ℕ → ℕ → Valued
     value at left = val (parse left b m at left)
 
-    pub value-fewer : valueOf s sh (member set) (parse left b (sh .m) at left) .rest < left
+    pub value-fewer : valueOf into n set (parse left b m at left) .rest < left
     value-fewer = go (parse left b m at left) refl was
       where
         go : (u : Parsed) → parse left b m at left ≡ u → WasRead u → val u .rest < left
@@ -116,7 +108,7 @@ module _ (s : List ℕ) (sh : Shape) (e : ReadAs s sh) (set : ℕ) (small : set 
     here = ap val (parse-node b m at left (some-left b m at left was))
 
     -- 0 to 2
-    pub leaf-value : getD b at 0 < 3 → valueOf s sh (member set) (parse left b (sh .m) at left) ≡ valued (leafWord n node set) (at + 1) (left - 1)
+    pub leaf-value : getD b at 0 < 3 → valueOf into n set (parse left b m at left) ≡ valued (leafWord n node set) (at + 1) (left - 1)
     leaf-value known = here ∙ rw (is-leaf b m at left was known) (ap (λ (x : ℕ). valued x (at + 1) (left - 1)) (leaf-word node))
 
     -- 3 and 4
@@ -127,10 +119,10 @@ module _ (s : List ℕ) (sh : Shape) (e : ReadAs s sh) (set : ℕ) (small : set 
       abbrev second : Valued
       second = value (first .after) (first .rest)
 
-      pub second-of-two : WasRead (parse (first .rest) b (sh .m) (first .after) (first .rest))
+      pub second-of-two : WasRead (parse (first .rest) b m (first .after) (first .rest))
       second-of-two = second-was (parse (left - 1) b m (at + 1) (left - 1)) (formula b m at left was) (λ f g after rest. parsed (twoOf node f g) after rest) (rw (is-two b m at left was above known) at (operands-were b m at left was))
 
-      pub two-value : valueOf s sh (member set) (parse left b (sh .m) at left) ≡ valued (joinedWord node (first .word) (second .word)) (second .after) (second .rest)
+      pub two-value : valueOf into n set (parse left b m at left) ≡ valued (joinedWord node (first .word) (second .word)) (second .after) (second .rest)
       two-value = here ∙ rw (is-two b m at left was above known) (two-values (parse (left - 1) b m (at + 1) (left - 1)) (formula b m at left was) node (first-of-two b m at left was above known) second-of-two)
 
     -- 5 and 6
@@ -138,5 +130,5 @@ module _ (s : List ℕ) (sh : Shape) (e : ReadAs s sh) (set : ℕ) (small : set 
       abbrev operand : Valued
       operand = value (at + 2) (left - 1)
 
-      pub modal-value : valueOf s sh (member set) (parse left b (sh .m) at left) ≡ valued (modalWord n steps node (getD b (at + 1) 0) (operand .word)) (operand .after) (operand .rest)
+      pub modal-value : valueOf into n set (parse left b m at left) ≡ valued (modalWord into n node (getD b (at + 1) 0) (operand .word)) (operand .after) (operand .rest)
       modal-value = here ∙ rw (is-one b m at left was above .1) (one-value (parse (left - 1) b m (at + 2) (left - 1)) node (getD b (at + 1) 0) (operand-was b m at left was above))

@@ -1,3 +1,5 @@
 pub mod Modal
 pub mod Operands
 pub mod Evaluating
+pub mod Rows
+pub mod Stepped

@@ -1,93 +1,92 @@
--- Diamond and box on words, by one pass over the triples.
-use Prim.Native.Nat.{ℕ, _+_, _-_, _*_, _<_, _^_}
-use mathlib.Core.Path.{_≡_, refl, ap, sym, _∙_}
-use mathlib.Core.Bool.{Bool, true, false}
+-- A step by the table is a diamond, and the others of a step to the others are a box.
+use Prim.Native.Nat.{ℕ, _+_, _-_, _*_, _<_, _≤_, _^_}
+use mathlib.Core.Path.{_≡_, refl, sym, subst, _∙_}
+use mathlib.Core.Bool.{Bool, So}
 use mathlib.Core.List.{List, List·Memᴰ as Mem}
+use native.Mathlib.Decide.{decLt}
 use native.Mathlib.Omega.{arith}
-use lib.Bits.{bitOr}
-use lib.Dec.{eqb}
-use Rattle.settle.specs.Test.{pick, both, either, neg, anyOf, some, each}
-use Rattle.settle.proofs.Test.{ext, neg-i, neg-e, some-i, some-e, each-i, each-e, stable, any-cong, all-cong, either-false, both-true, both-false, any-more}
+use lib.ListN.{getD}
+use borrow.Author.Tests.{eqb-true, eq-eqb}
+use Rattle.settle.specs.Test.{neg}
+use Rattle.settle.proofs.Test.{never, ext, neg-i, neg-e, stable, any-i, any-e, all-i, all-e, some-i, some-e}
 use Rattle.chart.specs.Chart.{Step}
-use Rattle.chart.specs.Reading.{stepAt, stepsAt, chartIn}
-use Rattle.chart.specs.declared.Shape.{Shape}
-use Rattle.chart.proofs.Steps.{stepsAt-snoc}
-use Rattle.chart.proofs.Accepted.{each-step}
-use Rattle.sheet.specs.Formula.{only, every}
-use Rattle.sheet.specs.Meaning.{leaves, someStep, everyStep, someLabel, everyLabel}
-use Rattle.sheet.specs.Reading.{labelOf}
-use Rattle.sheet.proofs.Meaning.{some-every, every-every}
+use Rattle.sheet.specs.Formula.{Label, only, every, Formula, variable, top, bottom, and, or, diamond, box}
+use Rattle.sheet.specs.Layout.{LabelIn, LabelsIn}
+use Rattle.sheet.specs.Meaning.{someLabel, everyLabel, holds}
+use Rattle.sheet.proofs.Meaning.{TargetsBelow, some-step-i, some-step-e, every-step-i, every-step-e, some-every}
 use Rattle.words.specs.Words.{wordOf, member}
-use Rattle.words.proofs.Words.{step-word, word-none, word-cong, word-ext, word-member, not-word}
-use Rattle.evaluate.specs.Evaluating.{ReadAs, asksFor, reaches, keeps}
+use Rattle.words.proofs.Words.{word-cong, word-lt, word-ext, word-member, word-none, all-word, and-word, or-word, not-word, no-member}
+use Rattle.steps.specs.Table.{Table, HasStep}
+use Rattle.steps.specs.Walk.{leads}
+use Rattle.steps.proofs.Leads.{leads-i, leads-e}
+use Rattle.evaluate.specs.Evaluating.{rowOf, stepWord, boxWord, tableWord}
 
--- ---- diamond: one pass
+-- a member of a word below 2 ^ n is below n
+pub member-below : (n w u : ℕ) → w < 2 ^ n → So (member w u) → u < n
+member-below n w u h m = elim (decLt u n) [ yes l ↦ l | no f ↦ never (sym (no-member n w u h (omega arith)) ∙ m) ]
 
-pub reach-none : (s : List ℕ) (p n a : ℕ) (F : ℕ → Bool) → 0 ≡ wordOf n (reaches (stepsAt s p 0) a F)
-unfolding reaches stepsAt some anyOf
-reach-none s p n a F = sym (word-none n)
+-- every such step leads into P exactly if none leads to the others
+box-others : (m : ℕ) (steps : List Step) (l : Label) (P : ℕ → Bool) (s : ℕ) → everyLabel m steps l P s ≡ neg (someLabel m steps l (λ u. neg (P u)) s)
+unfolding everyLabel someLabel
+box-others m steps (only a) P s = ext
+    (λ h. neg-i _ (λ r. let e = some-step-e _ _ _ _ r in neg-e _ (e .4) (every-step-e _ _ _ _ h (e .0) (e .1) (e .2) (e .3))))
+    (λ h. every-step-i _ _ _ _ (λ t i e f. stable _ (λ k. neg-e _ h (some-step-i _ _ _ _ t i e f (neg-i _ k)))))
+box-others m steps every P s = ext
+    (λ h. neg-i _ (λ r. let q = any-e _ _ r in let e = some-step-e _ _ _ _ (q .2) in neg-e _ (e .4) (every-step-e _ _ _ _ (all-e _ h (q .1)) (e .0) (e .1) (e .2) (e .3))))
+    (λ h. all-i _ _ (λ a j. every-step-i _ _ _ _ (λ t i e f. stable _ (λ k. neg-e _ h (any-i _ j (some-step-i _ _ _ _ t i e f (neg-i _ k)))))))
 
--- one state more, where two tests hold
-step-where : (n s : ℕ) (P : ℕ → Bool) (b c : Bool) → s < n
-    → pick (both b c) (bitOr (wordOf n P) (2 ^ s)) (wordOf n P) ≡ wordOf n (λ x. either (P x) (both (both (eqb s x) b) c))
-unfolding both
-step-where n s P true true h = step-word n s P h ∙ word-cong n _ _ (λ x l. rw (both-true (eqb s x), both-true (eqb s x)))
-step-where n s P true false h = word-cong n _ _ (λ x l. rw (both-false (both (eqb s x) true), either-false (P x)))
-step-where n s P false c h = word-cong n _ _ (λ x l. rw (both-false (eqb s x), either-false (P x)))
+module _ (n m : ℕ) (few : n ≤ 64) (steps : List Step) (targets : TargetsBelow n steps) (actions : (t : Step) → Mem t steps → t .action < m) (into : List ℕ) (T : Table n m steps into) where
+  -- the step t, told by its parts
+  told : (s a : ℕ) (t : Step) → Mem t steps → t .source ≡ s → t .action ≡ a → HasStep steps s a (t .target)
+  told s a t i e f = subst (λ (y : ℕ). HasStep steps s y (t .target)) f (subst (λ (x : ℕ). HasStep steps x (t .action) (t .target)) e i)
 
--- the source's bit is set where the step is asked for and reaches F
-pub reach-more : (s : List ℕ) (p n a : ℕ) (F : ℕ → Bool) (i : ℕ) → stepAt s (p + 3 * i) .source < n
-    → pick (both (asksFor a (stepAt s (p + 3 * i) .action)) (F (stepAt s (p + 3 * i) .target)))
-    (bitOr (wordOf n (reaches (stepsAt s p i) a F)) (2 ^ stepAt s (p + 3 * i) .source))
-    (wordOf n (reaches (stepsAt s p i) a F))
-    ≡ wordOf n (reaches (stepsAt s p (i + 1)) a F)
-unfolding reaches some
-reach-more s p n a F i h =
-    let u = stepAt s (p + 3 * i) in
-    rw (stepsAt-snoc s p i) (step-where n (u .source) (reaches (stepsAt s p i) a F) (asksFor a (u .action)) (F (u .target)) h ∙ sym (word-cong n _ _ (λ x l. any-more _ (stepsAt s p i) u)))
+  module _ (w : ℕ) (small : w < 2 ^ n) (P : ℕ → Bool) (is : (u : ℕ) → u < n → member w u ≡ P u) (s : ℕ) where
+    -- a row's step to the word of P is a step by its actions to P
+    step-label : (l : Label) → LabelIn m l → leads into (rowOf l * n) w s ≡ someLabel m steps l P s
+    unfolding LabelIn someLabel
+    step-label (only a) h = ext
+        (λ r.
+        let e = leads-e into ((a + 1) * n) w s r in
+        let l = member-below n w (e .0) small (e .2) in
+        some-step-i steps a P s (record { source = s; action = a; target = e .0 }) (T .by-action a (e .0) s h l .0 (e .3)) refl refl (sym (is (e .0) l) ∙ e .2))
+        (λ r.
+        let e = some-step-e steps a P s r in
+        let l = targets (e .0) (e .1) in
+        leads-i into ((a + 1) * n) w s (e .0 .target) (omega arith) (is (e .0 .target) l ∙ e .4) (T .by-action a (e .0 .target) s h l .1 (told s a (e .0) (e .1) (e .2) (e .3))))
+    step-label every h = ext
+        (λ r.
+        let e = leads-e into (0 * n) w s r in
+        let l = member-below n w (e .0) small (e .2) in
+        let b = T .by-any (e .0) s l .0 (subst (λ (x : ℕ). So (member (getD into x 0) s)) (first-row (e .0)) (e .3)) in
+        some-i _ _ (b .1) (eq-eqb s s refl) (sym (is (e .0) l) ∙ e .2))
+        (λ r.
+        let e = some-e _ _ steps r in
+        let l = targets (e .0) (e .1) in
+        leads-i into (0 * n) w s (e .0 .target) (omega arith) (is (e .0 .target) l ∙ e .3) (subst (λ (x : ℕ). So (member (getD into x 0) s)) (sym (first-row (e .0 .target))) (T .by-any (e .0 .target) s l .1 (e .0 .action, told s (e .0 .action) (e .0) (e .1) (eqb-true _ _ (e .2)) refl))))
+        ∙ sym (some-every m steps P s actions)
+      where
+        first-row : (u : ℕ) → 0 * n + u ≡ u
+        first-row u = omega arith
 
--- ---- box: none of the asked-for steps reaches the others
+  module _ (l : Label) (h : LabelIn m l) (P : ℕ → Bool) where
+    diamond-word : stepWord into n (rowOf l) (wordOf n P) ≡ wordOf n (someLabel m steps l P)
+    diamond-word = word-cong n _ _ (λ s b. step-label (wordOf n P) (word-lt n P) P (λ u k. word-member n u P k) s l h)
 
-pub reach-cong : (steps : List Step) (a : ℕ) (F G : ℕ → Bool) → ((u : Step) → Mem u steps → F (u .target) ≡ G (u .target)) → (x : ℕ) → reaches steps a F x ≡ reaches steps a G x
-unfolding reaches some
-reach-cong steps a F G e x = any-cong _ _ steps (λ u m. rw (e u m))
+    box-word : boxWord into n (rowOf l) (wordOf n P) ≡ wordOf n (everyLabel m steps l P)
+    box-word =
+        let Q : ℕ → Bool = λ u. neg (P u) in
+        let others : 2 ^ n - 1 - wordOf n P ≡ wordOf n Q = omega (arith, not-word n P) in
+        let step : wordOf n (leads into (rowOf l * n) (wordOf n Q)) ≡ wordOf n (someLabel m steps l Q) = word-cong n _ _ (λ s b. step-label (wordOf n Q) (word-lt n Q) Q (λ u k. word-member n u Q k) s l h) in
+        let all : wordOf n (everyLabel m steps l P) ≡ wordOf n (λ s. neg (someLabel m steps l Q s)) = word-cong n _ _ (λ s b. box-others m steps l P s) in
+        rw (others) (omega (arith, step, all, not-word n (someLabel m steps l Q)))
 
-pub keep-cong : (steps : List Step) (a : ℕ) (F G : ℕ → Bool) → ((u : Step) → Mem u steps → F (u .target) ≡ G (u .target)) → (x : ℕ) → keeps steps a F x ≡ keeps steps a G x
-unfolding keeps each
-keep-cong steps a F G e x = all-cong _ _ steps (λ u m. rw (e u m))
-
-keep-reach : (steps : List Step) (a : ℕ) (F : ℕ → Bool) (x : ℕ) → keeps steps a F x ≡ neg (reaches steps a (λ y. neg (F y)) x)
-unfolding keeps reaches
-keep-reach steps a F x = ext
-    (λ h. neg-i _ (λ r. let e = some-e _ _ _ r in neg-e _ (e .3) (each-e _ _ h (e .1) (e .2))))
-    (λ h. each-i _ _ _ (λ u m v. stable _ (λ k. neg-e _ h (some-i _ _ m v (neg-i _ k)))))
-
-pub word-box : (s : List ℕ) (sh : Shape) (a f : ℕ) → ReadAs s sh → f < 2 ^ sh .n
-    → 2 ^ sh .n - 1 - wordOf (sh .n) (reaches (chartIn s sh .steps) a (member (2 ^ sh .n - 1 - f))) ≡ wordOf (sh .n) (keeps (chartIn s sh .steps) a (member f))
-word-box s sh a f e h =
-    let steps : List Step = chartIn s sh .steps in
-    let others : 2 ^ sh .n - 1 - f ≡ wordOf (sh .n) (λ x. neg (member f x)) = omega (arith, word-ext (sh .n) f h, not-word (sh .n) (member f)) in
-    let same : wordOf (sh .n) (reaches steps a (member (2 ^ sh .n - 1 - f))) ≡ wordOf (sh .n) (reaches steps a (λ x. neg (member f x))) =
-    word-cong (sh .n) _ _ (λ x l. reach-cong steps a _ _ (λ u m. ap (λ (w : ℕ). member w (u .target)) others ∙ word-member (sh .n) (u .target) (λ x. neg (member f x)) (each-step s sh e u m .target-in)) x) in
-    let all : wordOf (sh .n) (keeps steps a (member f)) ≡ wordOf (sh .n) (λ x. neg (reaches steps a (λ y. neg (member f y)) x)) =
-    word-cong (sh .n) _ _ (λ x l. keep-reach steps a (member f) x) in
-    omega (arith, same, all, not-word (sh .n) (reaches steps a (λ x. neg (member f x))))
-
--- ---- the actions asked for
-
-module _ (m : ℕ) (steps : List Step) (A : (u : Step) → Mem u steps → u .action < m) (a : ℕ) (F : ℕ → Bool) (x : ℕ) where
-  pub some-label : someLabel m steps (labelOf a) F x ≡ reaches steps a F x
-  unfolding someLabel someStep leaves reaches some either
-  some-label = go (eqb a 255)
-    where
-      go : (b : Bool) → someLabel m steps (pick b every (only a)) F x ≡ some (λ u. both (eqb (u .source) x) (either b (eqb (u .action) a))) (λ u. F (u .target)) steps
-      go true = some-every m steps F x A ∙ any-cong _ _ steps (λ u i. rw (both-true (eqb (u .source) x)))
-      go false = refl
-
-  pub every-label : everyLabel m steps (labelOf a) F x ≡ keeps steps a F x
-  unfolding everyLabel everyStep leaves keeps each either
-  every-label = go (eqb a 255)
-    where
-      go : (b : Bool) → everyLabel m steps (pick b every (only a)) F x ≡ each (λ u. both (eqb (u .source) x) (either b (eqb (u .action) a))) (λ u. F (u .target)) steps
-      go true = every-every m steps F x A ∙ all-cong _ _ steps (λ u i. rw (both-true (eqb (u .source) x)))
-      go false = refl
+  -- the word that the table gives is that of the states at which the formula holds
+  pub table-holds : (f : Formula) → LabelsIn m f → (set : ℕ) → set < 2 ^ n → tableWord into n f set ≡ wordOf n (holds m steps f (member set))
+  unfolding LabelsIn tableWord holds
+  table-holds variable h set small = sym (word-ext n set small)
+  table-holds top h set small = sym (all-word n)
+  table-holds bottom h set small = sym (word-none n)
+  table-holds (and f g) h set small = rw (table-holds f (h .0) set small, table-holds g (h .1) set small) (and-word n _ _)
+  table-holds (or f g) h set small = rw (table-holds f (h .0) set small, table-holds g (h .1) set small) (or-word n _ _)
+  table-holds (diamond l f) h set small = rw (table-holds f (h .1) set small) (diamond-word l (h .0) (holds m steps f (member set)))
+  table-holds (box l f) h set small = rw (table-holds f (h .1) set small) (box-word l (h .0) (holds m steps f (member set)))

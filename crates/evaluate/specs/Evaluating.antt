@@ -1,51 +1,90 @@
 -- What the parts of the evaluator say of themselves. The promise of the question cites none of it.
-use Prim.Native.Nat.{ℕ, _-_, _^_}
+use Prim.Native.Nat.{ℕ, _+_, _-_, _*_, _^_, _≤_, _<_}
 use mathlib.Core.Path.{_≡_}
-use mathlib.Core.Bool.{Bool}
 use mathlib.Core.List.{List}
+use mathlib.Core.Logic.{_⊎_}
 use lib.Dec.{eqb}
 use lib.Bits.{bitAnd, bitOr}
-use Rattle.settle.specs.Test.{pick, both, either, some, each}
-use Rattle.chart.specs.Chart.{Step}
-use Rattle.chart.specs.Reading.{chartIn, readChart}
-use Rattle.chart.specs.declared.Shape.{Shape}
-use Rattle.chart.specs.declared.ChartRead.the-variants as Read
-use Rattle.sheet.specs.Reading.{Parsed, parsed, wrong}
-use Rattle.sheet.specs.Meaning.{holds}
-use Rattle.words.specs.Words.{wordOf, member}
+use lib.ListN.{length, getD}
+use Rattle.settle.specs.Test.{pick}
+use Rattle.sheet.specs.Formula.{Label, only, every, Formula, variable, top, bottom, and, or, diamond, box}
+use Rattle.sheet.specs.Reading.{labelOf, Parsed, parsed, wrong}
+use Rattle.words.specs.Words.{wordOf}
+use Rattle.steps.specs.Walk.{leads}
 use Rattle.evaluate.specs.declared.formula.Valued.{Valued}
 
--- the bytes were read as a chart of these counts
-abbrev pub ReadAs : List ℕ → Shape → Type 0
-ReadAs chart shape = readChart chart ≡ Read.Chart shape
+-- ---- a formula's word, by the table of a chart's steps; that it is the word of the states at which the formula holds is the law `table-holds`
 
--- whether the action byte of a node asks for an action
-abbrev pub asksFor : ℕ → ℕ → Bool
-asksFor a action = either (eqb a 255) (eqb action a)
+-- the row of an action; row 0 is that of all actions together
+abbrev pub rowOf : Label → ℕ
+rowOf every = 0
+rowOf (only a) = a + 1
 
--- some step from s that is asked for reaches F; every one does
-unfoldable pub reaches : List Step → ℕ → (ℕ → Bool) → ℕ → Bool
-reaches steps a F s = some (λ u. both (eqb (u .source) s) (asksFor a (u .action))) (λ u. F (u .target)) steps
+-- the states with a step, by the row, to a member of the set
+abbrev pub stepWord : List ℕ → ℕ → ℕ → ℕ → ℕ
+stepWord into n row w = wordOf n (leads into (row * n) w)
 
-unfoldable pub keeps : List Step → ℕ → (ℕ → Bool) → ℕ → Bool
-keeps steps a F s = each (λ u. both (eqb (u .source) s) (asksFor a (u .action))) (λ u. F (u .target)) steps
+-- the states all of whose steps, by the row, lead into the set: none leads to the others
+abbrev pub boxWord : List ℕ → ℕ → ℕ → ℕ → ℕ
+boxWord into n row w = 2 ^ n - 1 - stepWord into n row (2 ^ n - 1 - w)
 
--- the word of a node from the words of its operands
-abbrev pub leafWord : ℕ → ℕ → ℕ → ℕ
-leafWord n node set = pick (eqb node 0) set (pick (eqb node 1) (2 ^ n - 1) 0)
+unfoldable pub tableWord : List ℕ → ℕ → Formula → ℕ → ℕ
+tableWord into n variable set = set
+tableWord into n top set = 2 ^ n - 1
+tableWord into n bottom set = 0
+tableWord into n (and f g) set = bitAnd (tableWord into n f set) (tableWord into n g set)
+tableWord into n (or f g) set = bitOr (tableWord into n f set) (tableWord into n g set)
+tableWord into n (diamond l f) set = stepWord into n (rowOf l) (tableWord into n f set)
+tableWord into n (box l f) set = boxWord into n (rowOf l) (tableWord into n f set)
 
-abbrev pub joinedWord : ℕ → ℕ → ℕ → ℕ
-joinedWord node v w = pick (eqb node 3) (bitAnd v w) (bitOr v w)
+-- ---- the words that a call works on: the rows of the table, and after them two for each place of the sheet
 
-abbrev pub modalWord : ℕ → List Step → ℕ → ℕ → ℕ → ℕ
-modalWord n steps node a w = pick (eqb node 5) (wordOf n (reaches steps a (member w))) (wordOf n (keeps steps a (member w)))
+-- at most 64 states and 32 actions; a row of n words for all actions together and for each of the m; no word with a bit at n or above
+pub record Serves (n m : ℕ) (work : List ℕ) : Type 0 where
+  pub states-few : n ≤ 64
+  pub actions-few : m ≤ 32
+  pub room : (m + 1) * n ≤ length work
+  pub no-bit-above : (e : ℕ) → getD work e 0 < 2 ^ n
+
+-- an action byte is an action or 255
+abbrev pub ActionIn : ℕ → ℕ → Type 0
+ActionIn m a = (a < m) ⊎ (a ≡ 255)
+
+-- where the words of place p stand
+abbrev pub memoAt : ℕ → ℕ → ℕ → ℕ
+memoAt n m p = (m + 1) * n + 2 * p
+
+-- of each place: the set that the step there last led to (of a box, the others), and then what it gave
+pub record Remembers (n m : ℕ) (sheet work : List ℕ) : Type 0 where
+  pub serves : Serves n m work
+  pub size : memoAt n m (length sheet) ≤ length work
+  pub gave : (p : ℕ) → p < length sheet → ActionIn m (getD sheet (p + 1) 0)
+      → getD work (memoAt n m p + 1) 0 ≡ stepWord work n (rowOf (labelOf (getD sheet (p + 1) 0))) (getD work (memoAt n m p) 0)
+
+-- the rows are what they were
+abbrev pub SameRows : ℕ → ℕ → List ℕ → List ℕ → Type 0
+SameRows n m old new = (e : ℕ) → e < (m + 1) * n → getD new e 0 ≡ getD old e 0
+
+abbrev pub Kept : ℕ → ℕ → List ℕ → List ℕ → List ℕ → Type 0
+Kept n m sheet old new = SameRows n m old new × Remembers n m sheet new
 
 -- a formula was read; one that stands in an accepted sheet is not judged again
 abbrev pub WasRead : Parsed → Type 0
 WasRead (parsed f at left) = Unit {0}
 WasRead (wrong r) = ⊥
 
--- what the evaluator says of a formula that was read: the word of the states at which it holds, the place after it and the nodes still unread
-abbrev pub valueOf : List ℕ → Shape → (ℕ → Bool) → Parsed → Valued
-valueOf chart shape T (parsed f at left) = record { word = wordOf (shape .n) (holds (shape .m) (chartIn chart shape .steps) f T); after = at; rest = left }
-valueOf chart shape T (wrong r) = record { word = 0; after = 0; rest = 0 }
+-- ---- the word of a node from the words of its operands
+
+abbrev pub leafWord : ℕ → ℕ → ℕ → ℕ
+leafWord n node set = pick (eqb node 0) set (pick (eqb node 1) (2 ^ n - 1) 0)
+
+abbrev pub joinedWord : ℕ → ℕ → ℕ → ℕ
+joinedWord node v w = pick (eqb node 3) (bitAnd v w) (bitOr v w)
+
+abbrev pub modalWord : List ℕ → ℕ → ℕ → ℕ → ℕ → ℕ
+modalWord into n node a w = pick (eqb node 5) (stepWord into n (rowOf (labelOf a)) w) (boxWord into n (rowOf (labelOf a)) w)
+
+-- what the evaluator says of a formula that was read: its word, the place after it and the nodes still unread
+abbrev pub valueOf : List ℕ → ℕ → ℕ → Parsed → Valued
+valueOf into n set (parsed f at left) = record { word = tableWord into n f set; after = at; rest = left }
+valueOf into n set (wrong r) = record { word = 0; after = 0; rest = 0 }

@@ -1,13 +1,12 @@
-// The word of a formula: the states at which it holds, with a word for the variable.
+// The word of a formula: the states at which it holds, with a word for the variable. The words that a call works on are the table of the chart's
+// steps and, after its rows, two for each place of the sheet.
 use chart::Shape;
 ghost use mathlib.Core.Path.{_≡_};
-ghost use Prim.Native.Nat.{_≤_, _<_, _^_};
-ghost use lib.Bits.{bitOr};
-ghost use Rattle.settle.specs.Test.{pick, both};
-ghost use Rattle.chart.specs.Reading.{chartIn};
-ghost use Rattle.sheet.specs.Reading.{parse};
-ghost use Rattle.words.specs.Words.{wordOf, member};
-ghost use Rattle.evaluate.specs.Evaluating.{ReadAs, asksFor, reaches, keeps, leafWord, joinedWord, modalWord, WasRead, valueOf};
+ghost use Prim.Native.Nat.{_+_, _*_, _≤_, _<_, _^_};
+ghost use lib.ListN.{length, getD};
+ghost use Rattle.sheet.specs.Reading.{labelOf, parse};
+ghost use Rattle.evaluate.specs.Evaluating.{rowOf, stepWord, leafWord, joinedWord, modalWord, valueOf};
+ghost use Rattle.evaluate.specs.Evaluating.{Serves, ActionIn, Remembers, Kept, WasRead};
 
 // A formula that was evaluated: its word, the place after it, and the nodes still unread.
 pub struct Valued {
@@ -16,69 +15,63 @@ pub struct Valued {
     pub rest: usize,
 }
 
-// Whether action byte a of a node asks for this action: 255 asks for every one.
-fn asks(a: u8, action: u8) -> bool
-    ensures { λ r. ⌜ r ≡ asksFor a action ⌝ }
+// The row of an action byte: an action has its own, 255 that of all actions together.
+fn row_of(m: usize, a: u8) -> usize
+    requires { ⌜ (m ≤ 32) × ActionIn m a ⌝ }
+    ensures { λ r. ⌜ (r ≡ rowOf (labelOf a)) × (r ≤ m) ⌝ }
 {
-    if a == 255 {
-        return true;
+    if m <= a as usize {
+        return 0;
     }
-    action == a
+    a as usize + 1
 }
 
-// The set w with the step's source, where the step is asked for and reaches f.
-fn after_step(w: u64, f: u64, a: u8, source: u8, action: u8, target: u8) -> u64
-    requires { ⌜ source < 64 ⌝ }
-    ensures { λ r. ⌜ r ≡ pick (both (asksFor a action) (member f target)) (bitOr w (2 ^ source)) w ⌝ }
+// The states with a step to a member of f, by the row. It gave `known` for the set `was`; where f has all of that, only the members that are new
+// are walked.
+fn stepped(into: &[u64], n: usize, row: usize, was: u64, known: u64, f: u64) -> u64
+    requires { ⌜ Serves n row (now into) ⌝ }
+    requires { ⌜ (was < 2 ^ n) × (f < 2 ^ n) ⌝ }
+    requires { ⌜ known ≡ stepWord (now into) n row was ⌝ }
+    ensures { λ r. ⌜ r ≡ stepWord (now (into .entry)) n row f ⌝ }
 {
-    if asks(a, action) {
-        if words::has(f, target) {
-            return words::with(w, source);
-        }
-        return w;
+    let base = row * n;
+    if words::meet(was, f) == was {
+        return steps::walk::gather(into, base, known, f - was);
     }
-    w
+    steps::walk::gather(into, base, 0, f)
 }
 
-// The states from which some a-step reaches f: one pass over the triples.
-fn diamond(chart: &[u8], shape: Shape, a: u8, f: u64) -> u64
-    requires { ⌜ ReadAs (now chart) shape ⌝ }
-    ensures { λ r. ⌜ r ≡ wordOf (shape .n) (reaches (chartIn (now (chart .entry)) shape .steps) a (member f)) ⌝ }
-{
-    let n = shape.n;
-    let p = 4 + n + shape.m;
-    let t = shape.t;
-    let mut w: u64 = 0;
-    let mut i: usize = 0;
-    while i < t {
-        let q = p + 3 * i;
-        w = after_step(w, f, a, chart[q], chart[q + 1], chart[q + 2]);
-        i = i + 1;
-    }
-    w
-}
-
-// The states from which every a-step reaches f: all but those from which some reaches the others.
-fn box_of(chart: &[u8], shape: Shape, a: u8, f: u64) -> u64
-    requires { ⌜ ReadAs (now chart) shape ⌝ }
+// The diamond at a place of the sheet. What it leads to and what it gives are remembered for the next round.
+fn diamond(shape: Shape, work: &mut [u64], sheet: &[u8], at: usize, f: u64) -> u64
+    requires { ⌜ Remembers (shape .n) (shape .m) (now sheet) (now work) ⌝ }
+    requires { ⌜ (at + 1 < length (now sheet)) × ActionIn (shape .m) (getD (now sheet) (at + 1) 0) ⌝ }
     requires { ⌜ f < 2 ^ shape .n ⌝ }
-    ensures { λ r. ⌜ r ≡ wordOf (shape .n) (keeps (chartIn (now (chart .entry)) shape .steps) a (member f)) ⌝ }
+    ensures { λ r. ⌜ r ≡ stepWord (now (work .entry)) (shape .n) (rowOf (labelOf (getD (now (sheet .entry)) (at + 1) 0))) f ⌝ }
+    ensures { λ _. ⌜ Kept (shape .n) (shape .m) (now (sheet .entry)) (now (work .entry)) (now (work .exit)) ⌝ }
 {
+    let row = row_of(shape.m, sheet[at + 1]);
+    let memo = (shape.m + 1) * shape.n + 2 * at;
+    let was = work[memo];
+    let known = work[memo + 1];
+    let w = stepped(work, shape.n, row, was, known, f);
+    work[memo] = f;
+    work[memo + 1] = w;
+    w
+}
+
+// The word of a diamond or a box at a place, from that of its operand. A box holds where no step leads to the others.
+fn modal_word(shape: Shape, work: &mut [u64], sheet: &[u8], at: usize, f: u64) -> u64
+    requires { ⌜ Remembers (shape .n) (shape .m) (now sheet) (now work) ⌝ }
+    requires { ⌜ (at + 1 < length (now sheet)) × ActionIn (shape .m) (getD (now sheet) (at + 1) 0) ⌝ }
+    requires { ⌜ f < 2 ^ shape .n ⌝ }
+    ensures { λ r. ⌜ r ≡ modalWord (now (work .entry)) (shape .n) (getD (now (sheet .entry)) at 0) (getD (now (sheet .entry)) (at + 1) 0) f ⌝ }
+    ensures { λ _. ⌜ Kept (shape .n) (shape .m) (now (sheet .entry)) (now (work .entry)) (now (work .exit)) ⌝ }
+{
+    if sheet[at] == 5 {
+        return diamond(shape, work, sheet, at, f);
+    }
     let all = words::all(shape.n);
-    let others = all - f;
-    all - diamond(chart, shape, a, others)
-}
-
-// The word of a diamond or a box, from that of its operand.
-fn modal_word(chart: &[u8], shape: Shape, node: u8, a: u8, f: u64) -> u64
-    requires { ⌜ ReadAs (now chart) shape ⌝ }
-    requires { ⌜ f < 2 ^ shape .n ⌝ }
-    ensures { λ r. ⌜ r ≡ modalWord (shape .n) (chartIn (now (chart .entry)) shape .steps) node a f ⌝ }
-{
-    if node == 5 {
-        return diamond(chart, shape, a, f);
-    }
-    box_of(chart, shape, a, f)
+    all - diamond(shape, work, sheet, at, all - f)
 }
 
 // The word of the variable, of true or of false.
@@ -107,17 +100,18 @@ fn joined_word(node: u8, v: u64, w: u64) -> u64
 
 // The word of the formula at a place, of at most left nodes, with set for the variable: it was read there, so no byte is judged again.
 pub fn eval_formula(
-    chart: &[u8],
     shape: Shape,
+    work: &mut [u64],
     sheet: &[u8],
     at: usize,
     left: usize,
     set: u64,
 ) -> Valued
-    requires { ⌜ ReadAs (now chart) shape ⌝ }
+    requires { ⌜ Remembers (shape .n) (shape .m) (now sheet) (now work) ⌝ }
     requires { ⌜ WasRead (parse left (now sheet) (shape .m) at left) ⌝ }
     requires { ⌜ set < 2 ^ shape .n ⌝ }
-    ensures { λ r. ⌜ r ≡ valueOf (now (chart .entry)) shape (member set) (parse left (now (sheet .entry)) (shape .m) at left) ⌝ }
+    ensures { λ r. ⌜ r ≡ valueOf (now (work .entry)) (shape .n) set (parse left (now (sheet .entry)) (shape .m) at left) ⌝ }
+    ensures { λ _. ⌜ Kept (shape .n) (shape .m) (now (sheet .entry)) (now (work .entry)) (now (work .exit)) ⌝ }
 {
     let node = sheet[at];
     if node < 3 {
@@ -128,17 +122,17 @@ pub fn eval_formula(
         };
     }
     if node < 5 {
-        let f = eval_formula(chart, shape, sheet, at + 1, left - 1, set);
-        let g = eval_formula(chart, shape, sheet, f.after, f.rest, set);
+        let f = eval_formula(shape, work, sheet, at + 1, left - 1, set);
+        let g = eval_formula(shape, work, sheet, f.after, f.rest, set);
         return Valued {
             word: joined_word(node, f.word, g.word),
             after: g.after,
             rest: g.rest,
         };
     }
-    let f = eval_formula(chart, shape, sheet, at + 2, left - 1, set);
+    let f = eval_formula(shape, work, sheet, at + 2, left - 1, set);
     Valued {
-        word: modal_word(chart, shape, node, sheet[at + 1], f.word),
+        word: modal_word(shape, work, sheet, at, f.word),
         after: f.after,
         rest: f.rest,
     }

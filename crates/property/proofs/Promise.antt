@@ -32,7 +32,7 @@ use Rattle.sheet.proofs.Meaning.{TargetsBelow}
 use Rattle.sheet.proofs.Solution.{targets-below, sheet-rounds, sheet-rounds-le, satisfies-iff}
 use Rattle.words.specs.Words.{member}
 use Rattle.words.proofs.Words.{word-lt, word-member, word-ext, word-cong}
-use Rattle.evaluate.specs.Evaluating.{ReadAs}
+use Rattle.steps.specs.Table.{ReadAs}
 use Rattle.property.specs.Solving.{firstSet, Reached, Solves}
 use Rattle.property.specs.Promise.{Solution, Unsettled, Answers, PropertyPromise}
 use Rattle.property.specs.declared.Solved.{Solved}

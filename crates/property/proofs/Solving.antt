@@ -4,7 +4,9 @@ use mathlib.Core.Path.{_≡_, refl, ap, sym, _∙_}
 use mathlib.Core.Bool.{Bool}
 use mathlib.Core.List.{List}
 use native.Mathlib.Omega.{arith}
+use native.Mathlib.Nat.{mul-le-mul}
 use native.Mathlib.Numerals.{add-one}
+use lib.ListN.{length}
 use borrow.Author.Count.{below-more}
 use Rattle.settle.specs.Finite.{below}
 use Rattle.settle.specs.Chain.{Same, empty, full, chain, Settled, Rounds}
@@ -12,14 +14,20 @@ use Rattle.settle.proofs.Finite.{below-e, below-i}
 use Rattle.chart.specs.Chart.{Step}
 use Rattle.chart.specs.Reading.{chartIn}
 use Rattle.chart.specs.declared.Shape.{Shape}
+use Rattle.chart.proofs.Accepted.{accepted, each-step}
 use Rattle.sheet.specs.Formula.{Formula}
 use Rattle.sheet.specs.Meaning.{holds}
-use Rattle.sheet.specs.Reading.{Parsed, parsed, wrong}
+use Rattle.sheet.specs.Layout.{LabelsIn}
+use Rattle.sheet.specs.Reading.{Parsed, parsed, wrong, parse}
 use Rattle.sheet.proofs.Meaning.{TargetsBelow, holds-same}
 use Rattle.words.specs.Words.{wordOf, member}
 use Rattle.words.proofs.Words.{word-none, all-word, word-cong, word-member}
-use Rattle.evaluate.specs.Evaluating.{valueOf}
-use Rattle.property.specs.Solving.{formulaOf}
+use Rattle.steps.specs.Table.{ReadAs, Table}
+use Rattle.evaluate.specs.Evaluating.{tableWord, memoAt, Remembers, SameRows, valueOf}
+use Rattle.evaluate.proofs.Modal.{table-holds}
+use Rattle.evaluate.proofs.Rows.{Labelled, read-labelled, word-same}
+use Rattle.evaluate.proofs.Stepped.{remembers-none}
+use Rattle.property.specs.Solving.{formulaOf, application}
 
 pub empty-word : (n : ℕ) → 0 ≡ wordOf n empty
 unfolding empty
@@ -29,18 +37,49 @@ pub full-word : (n : ℕ) → 2 ^ n - 1 ≡ wordOf n full
 unfolding full
 full-word n = sym (all-word n)
 
--- what the evaluator says is the word of one application
-pub round-word : (s : List ℕ) (sh : Shape) (T : ℕ → Bool) (u : Parsed) → valueOf s sh T u .word ≡ wordOf (sh .n) (holds (sh .m) (chartIn s sh .steps) (formulaOf u) T)
-unfolding holds
-round-word s sh T (parsed f at left) = refl
-round-word s sh T (wrong r) = sym (word-none (sh .n))
+-- what the evaluator says is the word of the formula
+pub round-word : (into : List ℕ) (n set : ℕ) (u : Parsed) → valueOf into n set u .word ≡ tableWord into n (formulaOf u) set
+unfolding tableWord
+round-word into n set (parsed f at left) = refl
+round-word into n set (wrong r) = refl
+
+-- ---- by the table of the chart's steps
+
+-- 33 rows of 64 words and two words for each of 402 places are enough
+pub work-few : (s : List ℕ) (sh : Shape) (b : List ℕ) → ReadAs s sh → length b ≤ 402 → memoAt (sh .n) (sh .m) (length b) ≤ 2916
+work-few s sh b e short =
+    let A = accepted s sh e in
+    let rows : sh .m + 1 ≤ 33 = omega (arith, A .actions-few) in
+    omega (arith, mul-le-mul rows (A .states-few))
+
+module _ (s : List ℕ) (sh : Shape) (b : List ℕ) (nodes : ℕ) (made : List ℕ) (e : ReadAs s sh) (T : Table (sh .n) (sh .m) (chartIn s sh .steps) made) where
+  -- the table as it was made, with nothing remembered yet
+  pub made-remembers : memoAt (sh .n) (sh .m) (length b) ≤ length made → Remembers (sh .n) (sh .m) b made
+  made-remembers size = remembers-none (sh .n) (sh .m) b made
+      (record { states-few = accepted s sh e .states-few; actions-few = accepted s sh e .actions-few; room = T .room; no-bit-above = T .no-bit-above }) size (T .none-after)
+
+  labels-in : (u : Parsed) → Labelled (sh .m) u → LabelsIn (sh .m) (formulaOf u)
+  unfolding LabelsIn
+  labels-in (parsed f at left) h = h
+  labels-in (wrong r) h = tt
+
+  -- the word of the formula is that of one application, as long as the rows are what they were
+  pub table-application : (work : List ℕ) → SameRows (sh .n) (sh .m) made work → (set : ℕ) → set < 2 ^ sh .n
+      → tableWord work (sh .n) (formulaOf (parse nodes b (sh .m) 3 nodes)) set ≡ wordOf (sh .n) (application s sh b nodes (member set))
+  table-application work same set small =
+      let read = parse nodes b (sh .m) 3 nodes in
+      let labels = labels-in read (read-labelled b (sh .m) 3 nodes read refl) in
+      word-same (sh .n) (sh .m) made work same (formulaOf read) labels set small
+      ∙ table-holds (sh .n) (sh .m) (accepted s sh e .states-few) (chartIn s sh .steps) (λ u i. each-step s sh e u i .target-in) (λ u i. each-step s sh e u i .action-in) made T (formulaOf read) labels set small
+
+-- ---- the rounds
 
 -- the words of two tests are equal exactly where the tests are
 same-word : (n : ℕ) (P Q : ℕ → Bool) → wordOf n P ≡ wordOf n Q → Same (below n) P Q
 same-word n P Q e x i = let h = below-e n x i in sym (word-member n x P h) ∙ ap (λ (w : ℕ). member w x) e ∙ word-member n x Q h
 
-word-same : (n : ℕ) (P Q : ℕ → Bool) → Same (below n) P Q → wordOf n P ≡ wordOf n Q
-word-same n P Q e = word-cong n P Q (λ x h. e x (below-i n x h))
+same-tests : (n : ℕ) (P Q : ℕ → Bool) → Same (below n) P Q → wordOf n P ≡ wordOf n Q
+same-tests n P Q e = word-cong n P Q (λ x h. e x (below-i n x h))
 
 -- the loop, after so many rounds: none of the rounds before was settled
 pub record Rounding (n : ℕ) (F : (ℕ → Bool) → ℕ → Bool) (S : ℕ → Bool) (set next rounds : ℕ) : Type 0 where
@@ -56,7 +95,7 @@ module _ {n : ℕ} {F : (ℕ → Bool) → ℕ → Bool} {S : ℕ → Bool} {set
 
   -- where it is not, this one was not settled either
   unsettled-more : (next ≡ set → ⊥) → (j : ℕ) → j < rounds + 1 → Settled (below n) (chain F S) j → ⊥
-  unsettled-more ne = below-more (λ j. Settled (below n) (chain F S) j → ⊥) rounds (R .unsettled) (λ s. ne (R .next-is ∙ sym (word-same n _ _ s) ∙ sym (R .set-is)))
+  unsettled-more ne = below-more (λ j. Settled (below n) (chain F S) j → ⊥) rounds (R .unsettled) (λ s. ne (R .next-is ∙ sym (same-tests n _ _ s) ∙ sym (R .set-is)))
 
   -- after 4,096 of them none was
   pub never-settled : (next ≡ set → ⊥) → rounds ≡ 4096 → (k : ℕ) → k ≤ 4096 → Settled (below n) (chain F S) k → ⊥

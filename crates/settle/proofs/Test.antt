@@ -81,16 +81,6 @@ unfolding either
 either-false true = refl
 either-false false = refl
 
-pub both-true : (b : Bool) → both b true ≡ b
-unfolding both
-both-true true = refl
-both-true false = refl
-
-pub both-false : (b : Bool) → both b false ≡ false
-unfolding both
-both-false true = refl
-both-false false = refl
-
 pub implies-i : (a b : Bool) → (So a → So b) → So (implies a b)
 unfolding implies
 implies-i true b f = f refl

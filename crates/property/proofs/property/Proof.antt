@@ -1,7 +1,7 @@
 use mathlib.Core.Path.{sym, _∙_}
 use borrow.Author.Needs.{needs}
-use Rattle.sheet.proofs.Accepted.{formed, refused-exactly}
-use Rattle.evaluate.specs.Evaluating.{ReadAs}
+use Rattle.sheet.proofs.Accepted.{formed, refused-exactly, accepted-short}
+use Rattle.steps.specs.Table.{ReadAs}
 use Rattle.property.proofs.Promise.{answers, promise-chart-refused, promise-sheet-refused, promise-accepted}
 use Rattle.property.proofs.property.Statement.{statement}
 use Rattle.property.proofs.property.Tie as tie
@@ -30,12 +30,12 @@ returns-2 c = promise-sheet-refused _ _ (c .before .before .before .before .befo
 enum-known-o : tie.Need-enum-known-o
 enum-known-o c = search needs
 
-solve-requires : tie.Need-solve-requires
-solve-requires c κs =
+solve-in-room-requires : tie.Need-solve-in-room-requires
+solve-in-room-requires c κs =
     let start = c .before .before .before .before .before .before .before .before .before .before in
     let sh = c .before .before .before .before .before .s .given .0 .0 in
     let F = formed (start .args .sheet .now) (sh .m) (c .before .o .given .0 .0) (sym (c .before .before .before .read-sheet .ensures .0) ∙ c .before .o .given .1) in
-    (sym (c .before .before .before .before .before .before .before .read-chart .ensures .0) ∙ c .before .before .before .before .before .s .given .1, rw (F .parsed-is) tt)
+    (sym (c .before .before .before .before .before .before .before .read-chart .ensures .0) ∙ c .before .before .before .before .before .s .given .1, (rw (F .parsed-is) tt, accepted-short _ _ _ _ _ (F .read-is)))
 
 returns-3 : tie.Need-returns-3
 returns-3 c =
@@ -43,8 +43,8 @@ returns-3 c =
     let sh = c .before .before .before .before .before .before .s .given .0 .0 in
     let read : ReadAs (start .args .chart .now) sh = sym (c .before .before .before .before .before .before .before .before .read-chart .ensures .0) ∙ c .before .before .before .before .before .before .s .given .1 in
     let F = formed (start .args .sheet .now) (sh .m) (c .before .before .o .given .0 .0) (sym (c .before .before .before .before .read-sheet .ensures .0) ∙ c .before .before .o .given .1) in
-    promise-accepted _ _ sh _ _ (F .formula) (c .solve .result) read (F .read-is)
-    (answers (start .args .chart .now) sh (c .before .before .o .given .0 .0 .kind) (F .formula) (c .solve .result) read (rw (F .parsed-is) at (c .solve .ensures)))
+    promise-accepted _ _ sh _ _ (F .formula) (c .solve-in-room .result) read (F .read-is)
+    (answers (start .args .chart .now) sh (c .before .before .o .given .0 .0 .kind) (F .formula) (c .solve-in-room .result) read (rw (F .parsed-is) at (c .solve-in-room .ensures)))
 
 pub property-spec : {M : Type 1} → statement M
 property-spec =
@@ -58,5 +58,5 @@ property-spec =
     enum-known-r-2
     returns-2
     enum-known-o
-    solve-requires
+    solve-in-room-requires
     returns-3)

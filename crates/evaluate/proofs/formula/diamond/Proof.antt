@@ -1,93 +1,103 @@
-use Prim.Native.Nat.{_-_, _≤_}
-use mathlib.Core.Path.{_≡_}
 use native.Mathlib.Omega.{arith}
 use borrow.Author.Needs.{needs}
-use Rattle.chart.specs.Reading.{stepsAt}
-use Rattle.chart.proofs.Accepted.{accepted}
-use Rattle.words.specs.Words.{wordOf, member}
-use Rattle.evaluate.specs.Evaluating.{reaches}
-use Rattle.evaluate.proofs.Modal.{reach-none, reach-more}
+use lib.ListN.{length-set}
+use Rattle.words.proofs.Words.{word-small}
+use Rattle.evaluate.proofs.Stepped.{serves-row, remembers-more}
 use Rattle.evaluate.proofs.formula.diamond.Statement.{statement}
 use Rattle.evaluate.proofs.formula.diamond.Tie as tie
 
-abbrev Inv-loop : tie.InvT-loop
-Inv-loop chart a f n p t w₀ i₀ w i = (i ≤ t) × (w ≡ wordOf n (reaches (stepsAt chart p i) a (member f)))
+add-row-of : tie.Need-add-row-of
+add-row-of c = search needs
 
-abbrev μ-loop : tie.MeasureT-loop
-μ-loop chart a f n p t w₀ i₀ w i = t - i
+shared-slice-read-row-of : tie.Need-shared-slice-read-row-of
+shared-slice-read-row-of c = search needs
 
-add-p : tie.Need-add-p Inv-loop μ-loop
-add-p c = omega (arith, accepted (c .before .args .chart .now) (c .before .args .shape) (c .before .pre))
+row-of-requires : tie.Need-row-of-requires
+row-of-requires c κs = search needs
 
-add-p-2 : tie.Need-add-p-2 Inv-loop μ-loop
-add-p-2 c = omega (arith, accepted (c .before .before .args .chart .now) (c .before .before .args .shape) (c .before .before .pre))
+add-memo : tie.Need-add-memo
+add-memo c = search needs
 
-loop-holds : tie.Need-loop-holds Inv-loop μ-loop
-loop-holds c = (search needs, reach-none (c .before .before .args .chart .now) _ (c .before .before .args .shape .n) (c .before .before .args .a) (member (c .before .before .args .f)))
+mul-memo : tie.Need-mul-memo
+mul-memo c = search needs
 
-mul-q : tie.Need-mul-q Inv-loop μ-loop
-mul-q c = omega (arith, accepted (c .before .before .before .before .args .chart .now) (c .before .before .before .before .args .shape) (c .before .before .before .before .pre))
+mul-memo-2 : tie.Need-mul-memo-2
+mul-memo-2 c = search needs
 
-add-q : tie.Need-add-q Inv-loop μ-loop
-add-q c = omega (arith, accepted (c .before .before .before .before .args .chart .now) (c .before .before .before .before .args .shape) (c .before .before .before .before .pre))
+add-memo-2 : tie.Need-add-memo-2
+add-memo-2 c = search needs
 
-shared-slice-read-after-step : tie.Need-shared-slice-read-after-step Inv-loop μ-loop
-shared-slice-read-after-step c = omega (arith, accepted (c .before .before .before .before .before .args .chart .now) (c .before .before .before .before .before .args .shape) (c .before .before .before .before .before .pre))
+mul-was : tie.Need-mul-was
+mul-was c = search needs
 
-add-after-step : tie.Need-add-after-step Inv-loop μ-loop
-add-after-step c = omega (arith, accepted (c .before .before .before .before .before .args .chart .now) (c .before .before .before .before .before .args .shape) (c .before .before .before .before .before .pre))
+slice-read-was : tie.Need-slice-read-was
+slice-read-was c = search needs
 
-shared-slice-read-after-step-2 : tie.Need-shared-slice-read-after-step-2 Inv-loop μ-loop
-shared-slice-read-after-step-2 c = omega (arith, accepted (c .before .before .before .before .before .before .args .chart .now) (c .before .before .before .before .before .before .args .shape) (c .before .before .before .before .before .before .pre))
+add-known : tie.Need-add-known
+add-known c = search needs
 
-add-after-step-2 : tie.Need-add-after-step-2 Inv-loop μ-loop
-add-after-step-2 c = omega (arith, accepted (c .before .before .before .before .before .before .args .chart .now) (c .before .before .before .before .before .before .args .shape) (c .before .before .before .before .before .before .pre))
+mul-known : tie.Need-mul-known
+mul-known c = search needs
 
-shared-slice-read-after-step-3 : tie.Need-shared-slice-read-after-step-3 Inv-loop μ-loop
-shared-slice-read-after-step-3 c = omega (arith, accepted (c .before .before .before .before .before .before .before .args .chart .now) (c .before .before .before .before .before .before .before .args .shape) (c .before .before .before .before .before .before .before .pre))
+slice-read-known : tie.Need-slice-read-known
+slice-read-known c = search needs
 
-after-step-requires : tie.Need-after-step-requires Inv-loop μ-loop
-after-step-requires c κs =
-    let start = c .before .before .before .before .before .before .before in
-    let step = accepted (start .args .chart .now) (start .args .shape) (start .pre) .steps-in (c .before .before .before .before .loop .i) (c .before .before .before .loop-test .taken) in
-    omega (arith, step .source-in, accepted (start .args .chart .now) (start .args .shape) (start .pre))
-
-add-i : tie.Need-add-i Inv-loop μ-loop
-add-i c = search needs
-
-loop-less : tie.Need-loop-less Inv-loop μ-loop
-loop-less c = search needs
-
--- the triples passed are one more
-loop-again : tie.Need-loop-again Inv-loop μ-loop
-loop-again c =
-    let start = c .before .before .before .before .before .before .before .before in
-    let step = accepted (start .args .chart .now) (start .args .shape) (start .pre) .steps-in (c .before .before .before .before .before .loop .i) (c .before .before .before .before .loop-test .taken) in (
-      search needs,
-      rw (c .after-step .ensures, c .before .before .before .before .before .loop .inv .1) (reach-more (start .args .chart .now) _ (start .args .shape .n) (start .args .a) (member (start .args .f)) (c .before .before .before .before .before .loop .i) (step .source-in)),
+stepped-requires : tie.Need-stepped-requires
+stepped-requires c κs =
+    let start = c .before .before .before .before .before .before .before .before .before in
+    let a = start .args in
+    let R = start .pre .0 in
+    let row = c .before .before .before .before .before .row-of .ensures in (
+      serves-row (a .shape .n) (a .shape .m) _ (a .work .now) (R .serves) (row .1),
+      ((R .serves .no-bit-above _, start .pre .1 .1), rw (row .0) (R .gave (a .at) (omega (arith, start .pre .1 .0 .0)) (start .pre .1 .0 .1))),
     )
 
-returns : tie.Need-returns Inv-loop μ-loop
-returns c = let e : c .before .loop .i ≡ c .before .before .before .before .args .shape .t = omega arith in rw (← e) (c .before .loop .inv .1)
+mul-work : tie.Need-mul-work
+mul-work c = search needs
+
+slice-write-work : tie.Need-slice-write-work
+slice-write-work c = search needs
+
+add-work : tie.Need-add-work
+add-work c = search needs
+
+mul-work-2 : tie.Need-mul-work-2
+mul-work-2 c = search needs
+
+slice-write-work-2 : tie.Need-slice-write-work-2
+slice-write-work-2 c = let start = c .before .before .before .before .before .before .before .before .before .before in simp length-set (omega (arith, start .pre .0 .size, start .pre .1 .0 .0))
+
+same-length : tie.Need-same-length
+same-length c = search needs
+
+returns : tie.Need-returns
+returns c =
+    let start = c .before .before .before .before .before .before .before .before .before .before in
+    let a = start .args in
+    let gave = rw (c .before .before .before .before .before .before .row-of .ensures .0) at (c .stepped .ensures) in
+    (gave, remembers-more (a .shape .n) (a .shape .m) (a .sheet .now) (a .work .now) (start .pre .0) (a .at) (a .f) (c .stepped .result) (omega (arith, start .pre .1 .0 .0)) (start .pre .1 .1) (word-small (a .shape .n) (c .stepped .result) _ (c .stepped .ensures)) gave)
 
 pub diamond-spec : {M : Type 1} → statement M
 diamond-spec =
     tie.close
     (tie.spec
-    Inv-loop
-    μ-loop
-    add-p
-    add-p-2
-    loop-holds
-    mul-q
-    add-q
-    shared-slice-read-after-step
-    add-after-step
-    shared-slice-read-after-step-2
-    add-after-step-2
-    shared-slice-read-after-step-3
-    after-step-requires
-    add-i
-    loop-less
-    loop-again
+    add-row-of
+    shared-slice-read-row-of
+    row-of-requires
+    add-memo
+    mul-memo
+    mul-memo-2
+    add-memo-2
+    mul-was
+    slice-read-was
+    add-known
+    mul-known
+    slice-read-known
+    stepped-requires
+    mul-work
+    slice-write-work
+    add-work
+    mul-work-2
+    slice-write-work-2
+    same-length
     returns)
