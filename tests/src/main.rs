@@ -19,6 +19,7 @@ mod parts;
 mod reach;
 mod reference;
 mod spelled;
+mod steps;
 mod table;
 mod tally;
 

@@ -1,6 +1,7 @@
 //! What must be reached in a run, beside the refusals of src/table.rs: every number of rounds where charts and formulas are as
 //! large as can be, every answer's size and every division of the limits between two charts, and buffers too long by thousands
-//! of bytes; of lists of reasons every length and depth, every line that can be bad or incomplete, and of their lines every answer
+//! of bytes; of properties every word of the steps and every operand that changes, of sheets the lengths and what remains of them; of
+//! lists of reasons every length and depth, every line that can be bad or incomplete, and of their lines every answer
 //! that can decide and every choice among moves; and of faulty triples, for each question, every number and byte that they can
 //! have in small charts and in the longest.
 
@@ -11,6 +12,8 @@ use std::ops::RangeInclusive;
 
 mod moves;
 mod reasons;
+pub mod sheets;
+pub mod steps;
 
 /// A question, and the input that its refusal names.
 type Asked = (Question, u64);
@@ -188,10 +191,13 @@ pub fn by(outcome: &Outcome) -> impl Iterator<Item = Value> + '_ {
     let asked = (outcome.left.question, outcome.input());
     // an input that is no chart has no triples
     let of_a_chart = if outcome.code != 0 && [0, 3].contains(&asked.1) { OF_A_CHART } else { &[] };
+    let of_a_sheet = if outcome.code != 0 && sheets::BOTH_QUESTIONS.contains(&Some(asked)) { sheets::REFUSED } else { &[] };
+    let (of_steps, of_sheets) = if asked.0 == Property { (steps::ROWS, sheets::ROWS) } else { (&[] as _, &[] as _) };
     let of_reasons = if [Reasons, CheckReasons].contains(&asked.0) { reasons::ROWS } else { &[] };
-    let rows = ROWS.iter().chain(of_reasons).map(|row| (row, None)).chain(of_a_chart.iter().map(move |row| (row, Some(asked))));
-    let of_moves = moves::by(outcome).into_iter().map(|(what, value)| (what, None, value));
-    rows.filter_map(|((what, value, _), asked)| value(outcome).map(|value| (*what, asked, value))).chain(of_moves)
+    let of_one = ROWS.iter().chain(of_steps).chain(of_sheets).chain(of_reasons).map(|row| (row, None));
+    let of_all = of_one.chain(of_a_chart.iter().chain(of_a_sheet).map(move |row| (row, Some(asked))));
+    let of_moves = moves::by(outcome).into_iter().chain(steps::by(outcome)).map(|(what, value)| (what, None, value));
+    of_all.filter_map(|((what, value, _), asked)| value(outcome).map(|value| (*what, asked, value))).chain(of_moves)
 }
 
 /// All that must be reached.
@@ -203,7 +209,9 @@ pub fn must() -> impl Iterator<Item = Value> {
 
 /// What is counted, of which questions, and how far it must go.
 pub fn rows() -> impl Iterator<Item = (&'static str, &'static [Option<Asked>], RangeInclusive<u64>)> {
-    let of_one = ROWS.iter().chain(reasons::ROWS).map(|(what, _, range)| (*what, range.clone()));
-    let of_all = of_one.chain(moves::rows()).map(|(what, range)| (what, [None].as_slice(), range));
-    of_all.chain(OF_A_CHART.iter().map(|(what, _, range)| (*what, EVERY_QUESTION, range.clone())))
+    let of_one =
+        [ROWS, steps::ROWS, sheets::ROWS, reasons::ROWS].into_iter().flatten().map(|(what, _, range)| (*what, range.clone()));
+    let of_one = of_one.chain(steps::of_changes()).chain(moves::rows()).map(|(what, range)| (what, [None].as_slice(), range));
+    let of_a_sheet = sheets::REFUSED.iter().map(|(what, _, range)| (*what, sheets::BOTH_QUESTIONS, range.clone()));
+    of_one.chain(of_a_sheet).chain(OF_A_CHART.iter().map(|(what, _, range)| (*what, EVERY_QUESTION, range.clone())))
 }

@@ -1,7 +1,7 @@
 //! What was asked, and what came of it.
 
 use crate::archive::Question;
-use crate::faults::Met;
+use crate::faults::{Fault, Met};
 use crate::outcome::Expected;
 use crate::reach;
 use crate::reference::refusal::Input;
@@ -22,6 +22,8 @@ pub struct Tally {
     pub reached: BTreeSet<reach::Value>,
     /// By name, each fault whose inputs were met.
     pub met: BTreeMap<&'static str, Met>,
+    /// The faults that are still to be met; all of them where there is nothing yet.
+    pub left: Option<Vec<&'static Fault>>,
     pub wrong: Vec<String>,
 }
 

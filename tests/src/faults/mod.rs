@@ -7,9 +7,11 @@ mod check_reasons;
 mod comparisons;
 mod lines;
 mod matrices;
+mod reader;
 mod reasons;
 mod refusals;
 mod sheets;
+mod steps;
 
 use crate::archive::{Room, MARGIN};
 use crate::outcome::Outcome;
@@ -27,8 +29,9 @@ pub struct Fault {
 
 pub fn all() -> impl Iterator<Item = &'static Fault> {
     let of_one_chart = [matrices::FAULTS, sheets::FAULTS, refusals::FAULTS, lines::FAULTS];
+    let of_steps = [steps::OF_THE_TABLE, steps::OF_THE_MEMORY, steps::OF_SIZES, reader::FAULTS];
     let of_more = [comparisons::FAULTS, reasons::FAULTS, check_reasons::FAULTS];
-    of_one_chart.into_iter().chain(of_more).flatten()
+    of_one_chart.into_iter().chain(of_steps).chain(of_more).flatten()
 }
 
 pub fn named(name: &str) -> &'static Fault {
@@ -60,14 +63,18 @@ fn is_of_lines(fault: &Fault) -> bool {
 /// Puts each fault that is met for the first time into a right outcome, and lets the checks look at it.
 pub fn try_all(tally: &mut Tally, by: &'static str, right: &Outcome, notices: impl Fn(&Outcome) -> bool) {
     let after = tally.calls();
-    for fault in all().filter(|fault| (fault.when)(right)) {
-        tally.met.entry(fault.name).or_insert_with(|| {
-            let mut wrong = right.clone();
-            (fault.alter)(&mut wrong);
-            let by_bytes = !is_of_lines(fault) || crate::lines::difference(&wrong).is_some();
-            Met { noticed: notices(&wrong) && by_bytes, after, by }
-        });
-    }
+    let mut left = tally.left.take().unwrap_or_else(|| all().collect());
+    left.retain(|fault| {
+        if !(fault.when)(right) {
+            return true;
+        }
+        let mut wrong = right.clone();
+        (fault.alter)(&mut wrong);
+        let by_bytes = !is_of_lines(fault) || crate::lines::difference(&wrong).is_some();
+        tally.met.insert(fault.name, Met { noticed: notices(&wrong) && by_bytes, after, by });
+        false
+    });
+    tally.left = Some(left);
 }
 
 /// Prints a line for each fault.

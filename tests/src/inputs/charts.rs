@@ -137,6 +137,34 @@ pub fn blocks(r: &mut Random, n: usize, m: usize, t: usize) -> Chart {
     chart(r, n, m, order.into_iter().map(|i| all[i]))
 }
 
+/// A longest chart whose steps turn 64 states round: by each of `turns` a state moves so many places along one ring of all of them, and
+/// by `part` each steps to itself, but for a few. So a diamond or box by a turn only turns its operand; by `part` a diamond takes
+/// these few away, and a box adds them.
+pub struct Turning {
+    pub chart: Chart,
+    pub turns: Vec<u8>,
+    pub part: u8,
+}
+
+pub fn turning(r: &mut Random, few: usize) -> Turning {
+    let mut ring: Vec<usize> = (0..64).collect();
+    r.shuffle(&mut ring);
+    let mut actions: Vec<usize> = (0..32).collect();
+    r.shuffle(&mut actions);
+    let (turns, others) = (&actions[..15], &actions[16..]);
+    let mut steps = BTreeSet::new();
+    for &a in turns {
+        let places = r.within(1, 63);
+        steps.extend((0..64).map(|i| (ring[i], a, ring[(i + places) % 64])));
+    }
+    steps.extend(ring[few..].iter().map(|&s| (s, actions[15], s)));
+    // by the other actions as many as make the chart a longest one
+    while steps.len() < 1024 {
+        steps.insert((r.below(64), r.any_of(others), r.below(64)));
+    }
+    Turning { chart: chart(r, 64, 32, steps), turns: turns.iter().map(|&a| a as u8).collect(), part: actions[15] as u8 }
+}
+
 /// At most one step for each state and action.
 pub fn deterministic(r: &mut Random, n: usize, m: usize) -> Chart {
     let mut steps = Vec::new();

@@ -8,10 +8,12 @@ pub mod forms;
 pub mod lines;
 pub mod order;
 pub mod places;
+pub mod reader;
 pub mod reasons;
 pub mod rounds;
 pub mod sizes;
 pub mod small;
+pub mod steps;
 pub mod valid;
 
 use crate::checker::Checker;
@@ -49,6 +51,8 @@ pub fn jobs() -> Vec<Job> {
         forms::jobs(),
         order::jobs(),
         boards::jobs(),
+        steps::jobs(),
+        reader::jobs(),
     ]
     .into_iter()
     .flatten()

@@ -143,7 +143,7 @@ fn cuts(c: &mut Checker) {
 
 /// Operators alone, from byte 3 of a sheet to a place: diamonds and boxes, before them an "and" or "or" where that is an odd
 /// number of bytes. So they want one operand, or two.
-fn operators(c: &mut Checker, place: usize) -> Vec<u8> {
+pub fn operators(c: &mut Checker, place: usize) -> Vec<u8> {
     let mut out = Vec::new();
     if (place - 3) % 2 == 1 {
         out.push(3 + c.random.below(2) as u8);

@@ -1,4 +1,4 @@
-//! The states that satisfy a property sheet.
+//! The states that satisfy a property sheet, as document 01 says it: every diamond and box looks at every transition, in every round.
 
 use super::chart::{self, Chart};
 use super::refusal::Refusal;
