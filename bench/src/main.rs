@@ -1,10 +1,11 @@
-//! Times the archive's calls beside Rust of the same shape and beside the fastest Rust that we know, in one run. Each time is the
-//! least processor time of several samples, taken in turn; the buffers are not cleared between calls. Ends with a line for each
-//! ratio above what is asked, and with status 1 where there is one.
+//! Times the archive's calls beside Rust of the same shape and beside the fastest Rust that we know, in one run, and properties also
+//! beside Rust without a table of the steps. Each time is the least processor time of several samples, taken in turn; the buffers
+//! are not cleared between calls. Ends with a line for each ratio above what is asked, and with status 1 where there is one.
 
 mod archive;
 mod cases;
 mod compare;
+mod passes;
 mod read;
 mod reasons;
 mod same_shape;
@@ -60,6 +61,14 @@ fn time<const N: usize>(mut calls: [&mut dyn FnMut(); N]) -> [f64; N] {
     least
 }
 
+/// Keeps a line for a ratio that is above what is asked.
+fn hold(above: &mut Vec<String>, question: &str, case: &str, beside: &str, ratio: f64, most: f64) {
+    // as it is printed, so that no line says 2.00 where 2 is asked
+    if (ratio * 100.0).round() > most * 100.0 {
+        above.push(format!("above what is asked: {question}, {case}: archive/{beside} {ratio:.2}, asked {most}"));
+    }
+}
+
 /// Prints the times of a case, and keeps a line for each ratio that is above what is asked.
 fn row(above: &mut Vec<String>, asked: &Asked, case: &str, rounds: &str, [archive, same, words]: [f64; 3]) {
     let us = 1e6;
@@ -72,93 +81,50 @@ fn row(above: &mut Vec<String>, asked: &Asked, case: &str, rounds: &str, [archiv
         archive / same,
         archive / words
     );
-    for (beside, ratio, most) in [("same", archive / same, Some(asked.same)), ("words", archive / words, asked.words)] {
-        let Some(most) = most else { continue };
-        // as it is printed, so that no line says 2.00 where 2 is asked
-        if (ratio * 100.0).round() > most * 100.0 {
-            above.push(format!("above what is asked: {question}, {case}: archive/{beside} {ratio:.2}, asked {most}"));
-        }
+    hold(above, question, case, "same", archive / same, asked.same);
+    if let Some(most) = asked.words {
+        hold(above, question, case, "words", archive / words, most);
     }
 }
 
-type Matrix = fn(&[u8], &mut [u8]) -> Option<u64>;
-
-/// The rounds, and the times of archive, same shape and words. They must agree first.
-fn matrix(chart: &[u8], calls: [Matrix; 3]) -> (u64, [f64; 3]) {
-    let mut buffers = [[9; 4096]; 3];
-    let rounds: Vec<u64> = (0..3).map(|i| calls[i](chart, &mut buffers[i]).expect("a good chart")).collect();
-    assert!(rounds.iter().all(|&k| k == rounds[0]) && buffers[1] == buffers[0] && buffers[2] == buffers[0], "they differ");
-    let [b0, b1, b2] = &mut buffers;
-    let times = time([
-        &mut || {
-            black_box(calls[0](black_box(chart), b0));
-        },
-        &mut || {
-            black_box(calls[1](black_box(chart), b1));
-        },
-        &mut || {
-            black_box(calls[2](black_box(chart), b2));
-        },
-    ]);
-    (rounds[0], times)
+/// The answer of calls that write to a buffer of this length, and the times of each. They must agree first.
+fn timed<const N: usize, A: PartialEq + Copy>(length: usize, calls: [impl Fn(&mut [u8]) -> Option<A>; N]) -> (A, [f64; N]) {
+    let mut buffers = [(); N].map(|_| vec![9; length]);
+    let answers: Vec<A> = calls.iter().zip(&mut buffers).map(|(call, b)| call(b).expect("a good input")).collect();
+    assert!(answers.iter().all(|a| *a == answers[0]) && buffers.iter().all(|b| *b == buffers[0]), "they differ");
+    let mut again: Vec<_> = calls.iter().zip(&mut buffers).map(|(call, b)| move || _ = black_box(call(b))).collect();
+    let again: Vec<&mut dyn FnMut()> = again.iter_mut().map(|call| call as _).collect();
+    (answers[0], time(again.try_into().ok().expect("one for each")))
 }
 
-fn property(chart: &[u8], sheet: &[u8]) -> (u64, [f64; 3]) {
-    let answer = archive::property(chart, sheet).expect("a good chart and sheet");
-    assert!(same_shape::property(chart, sheet) == Some(answer) && words::property(chart, sheet) == Some(answer), "they differ");
-    let times = time([
-        &mut || {
-            black_box(archive::property(black_box(chart), black_box(sheet)));
-        },
-        &mut || {
-            black_box(same_shape::property(black_box(chart), black_box(sheet)));
-        },
-        &mut || {
-            black_box(words::property(black_box(chart), black_box(sheet)));
-        },
-    ]);
+/// A question that fills a buffer from a chart.
+type OfChart = fn(&[u8], &mut [u8]) -> Option<u64>;
+
+/// The answer, and the times of archive, same shape and words, in a buffer of this length.
+fn of_chart(chart: &[u8], length: usize, calls: [OfChart; 3]) -> (u64, [f64; 3]) {
+    timed(length, calls.map(|call| move |b: &mut [u8]| call(black_box(chart), b)))
+}
+
+/// The word, the number of states in it and the rounds.
+type Solve = fn(&[u8], &[u8]) -> Option<(u64, u64, u64)>;
+
+/// The rounds, and the times.
+fn property<const N: usize>(chart: &[u8], sheet: &[u8], calls: [Solve; N]) -> (u64, [f64; N]) {
+    let (answer, times) = timed(0, calls.map(|call| move |_: &mut [u8]| call(black_box(chart), black_box(sheet))));
     (answer.2, times)
 }
 
 /// Name 2, which writes the most.
 fn safe_path(chart: &[u8], sheet: &[u8]) -> [f64; 3] {
     let calls = [archive::short_form, short_form::same_shape, short_form::one_pass];
-    let mut buffers = [[9; 512]; 3];
-    let lengths: Vec<u64> = (0..3).map(|i| calls[i](chart, sheet, 2, &mut buffers[i]).expect("a good F")).collect();
-    assert!(lengths.iter().all(|&k| k == lengths[0]) && buffers[1] == buffers[0] && buffers[2] == buffers[0], "they differ");
-    let [b0, b1, b2] = &mut buffers;
-    time([
-        &mut || {
-            black_box(calls[0](black_box(chart), black_box(sheet), 2, b0));
-        },
-        &mut || {
-            black_box(calls[1](black_box(chart), black_box(sheet), 2, b1));
-        },
-        &mut || {
-            black_box(calls[2](black_box(chart), black_box(sheet), 2, b2));
-        },
-    ])
+    timed(512, calls.map(|call| move |b: &mut [u8]| call(black_box(chart), black_box(sheet), 2, b))).1
 }
 
 /// The rounds, and the times.
 fn compare(first: &[u8], second: &[u8]) -> (u64, [f64; 3]) {
     let calls = [archive::compare, compare::same_shape, compare::words];
-    let mut buffers = [[9; 67]; 3];
-    let answers: Vec<_> = (0..3).map(|i| calls[i](first, second, &mut buffers[i]).expect("two good charts")).collect();
-    assert!(answers.iter().all(|&k| k == answers[0]) && buffers[1] == buffers[0] && buffers[2] == buffers[0], "they differ");
-    let [b0, b1, b2] = &mut buffers;
-    let times = time([
-        &mut || {
-            black_box(calls[0](black_box(first), black_box(second), b0));
-        },
-        &mut || {
-            black_box(calls[1](black_box(first), black_box(second), b1));
-        },
-        &mut || {
-            black_box(calls[2](black_box(first), black_box(second), b2));
-        },
-    ]);
-    (answers[0].1, times)
+    let (answer, times) = timed(67, calls.map(|call| move |b: &mut [u8]| call(black_box(first), black_box(second), b)));
+    (answer.1, times)
 }
 
 /// Our list.
@@ -169,44 +135,17 @@ fn our_list(chart: &[u8]) -> Vec<u8> {
     room
 }
 
-/// The times of our list in a buffer of this length.
-fn reasons(chart: &[u8], length: usize) -> [f64; 3] {
-    let calls = [archive::reasons, reasons::same_shape, reasons::words];
-    let mut buffers = [(); 3].map(|_| vec![9; length]);
-    let lengths: Vec<u64> = (0..3).map(|i| calls[i](chart, &mut buffers[i]).expect("a good chart")).collect();
-    assert!(lengths.iter().all(|&k| k == lengths[0]) && buffers[1] == buffers[0] && buffers[2] == buffers[0], "they differ");
-    let [b0, b1, b2] = &mut buffers;
-    time([
-        &mut || {
-            black_box(calls[0](black_box(chart), b0));
-        },
-        &mut || {
-            black_box(calls[1](black_box(chart), b1));
-        },
-        &mut || {
-            black_box(calls[2](black_box(chart), b2));
-        },
-    ])
-}
-
 fn check(chart: &[u8], list: &[u8]) -> [f64; 3] {
     let calls = [archive::check_reasons, reasons::check_same_shape, reasons::check_words];
-    assert!(calls.iter().all(|call| call(chart, list) == Some(list.len() as u64 / 5)), "they differ");
-    time([
-        &mut || {
-            black_box(calls[0](black_box(chart), black_box(list)));
-        },
-        &mut || {
-            black_box(calls[1](black_box(chart), black_box(list)));
-        },
-        &mut || {
-            black_box(calls[2](black_box(chart), black_box(list)));
-        },
-    ])
+    let (lines, times) = timed(0, calls.map(|call| move |_: &mut [u8]| call(black_box(chart), black_box(list))));
+    assert!(lines == list.len() as u64 / 5, "not all of the list");
+    times
 }
 
-const MARKS: [Matrix; 3] = [archive::marks, same_shape::marks, words::marks];
-const SIMULATION: [Matrix; 3] = [archive::simulation, same_shape::simulation, words::simulation];
+const MARKS: [OfChart; 3] = [archive::marks, same_shape::marks, words::marks];
+const SIMULATION: [OfChart; 3] = [archive::simulation, same_shape::simulation, words::simulation];
+const PROPERTY: [Solve; 3] = [archive::property, same_shape::property, words::property];
+const REASONS: [OfChart; 3] = [archive::reasons, reasons::same_shape, reasons::words];
 
 /// The charts that are taken whole, by name.
 fn charts() -> [(&'static str, Vec<u8>); 7] {
@@ -226,26 +165,32 @@ fn matrices(above: &mut Vec<String>) {
     let charts = charts();
     for (asked, calls) in [(cases::MARKS, MARKS), (cases::SIMULATION, SIMULATION)] {
         for (case, chart) in &charts {
-            let (rounds, times) = matrix(chart, calls);
+            let (rounds, times) = of_chart(chart, 4096, calls);
             row(above, &asked, case, &rounds.to_string(), times);
         }
     }
 }
 
-/// Properties, and short forms.
-fn sheets(above: &mut Vec<String>) {
+/// The properties, by name: a chart and a sheet.
+fn properties() -> [(&'static str, Vec<u8>, Vec<u8>); 6] {
     let drawn = cases::drawn(64, 32, 1024);
-    for (case, chart, sheet) in [
+    [
         ("E, its sheet", cases::e(), cases::e_sheet()),
         ("1,024 triples, 5 nodes", drawn.clone(), cases::reach_rest()),
         ("1,024 triples, 200 nodes drawn", drawn.clone(), cases::drawn_sheet(32)),
-        ("1,024 triples, 200 nodes nested", drawn.clone(), cases::nested_sheet()),
+        ("1,024 triples, 200 nodes nested", drawn, cases::nested_sheet()),
         ("chain of 64, 5 nodes", cases::chain(64), cases::reach_rest()),
         ("chain of 64, 200 nodes", cases::chain(64), cases::long_reach_rest()),
-    ] {
-        let (rounds, times) = property(&chart, &sheet);
+    ]
+}
+
+/// Properties, and short forms.
+fn sheets(above: &mut Vec<String>) {
+    for (case, chart, sheet) in properties() {
+        let (rounds, times) = property(&chart, &sheet, PROPERTY);
         row(above, &cases::PROPERTY, case, &rounds.to_string(), times);
     }
+    let drawn = cases::drawn(64, 32, 1024);
     for (case, chart, sheet) in [
         ("E, its sheet, name 2", cases::e(), cases::e_sheet()),
         ("E, 194 nodes nested, name 2", cases::e(), cases::closed_sheet(194)),
@@ -278,7 +223,7 @@ fn rounds(chart: &[u8]) -> String {
 /// the archive has to work elsewhere.
 fn lists(above: &mut Vec<String>) {
     for (case, chart) in &charts() {
-        row(above, &cases::REASONS, case, &rounds(chart), reasons(chart, reasons::LONGEST));
+        row(above, &cases::REASONS, case, &rounds(chart), of_chart(chart, reasons::LONGEST, REASONS).1);
     }
     for (case, chart) in [
         ("ring of 32 classes of 2, no room to spare", cases::ring_of_classes(32)),
@@ -286,7 +231,7 @@ fn lists(above: &mut Vec<String>) {
     ] {
         let length = our_list(&chart).len();
         assert!(length < reasons::LONGEST, "no equal states");
-        row(above, &cases::REASONS, case, &rounds(&chart), reasons(&chart, length));
+        row(above, &cases::REASONS, case, &rounds(&chart), of_chart(&chart, length, REASONS).1);
     }
 }
 
@@ -318,6 +263,18 @@ fn beside_rust() -> Vec<String> {
     above
 }
 
+/// The table of properties beside Rust that makes no table of the steps: what a small chart pays for it. Nothing is asked of it.
+fn beside_passes() {
+    println!("\nA property beside Rust that makes no table of the steps: a pass over the triples for every diamond and box.\n");
+    println!("| {:<31} | rounds |    archive |     passes | archive/passes |", "case");
+    println!("|---|---|---|---|---|");
+    for (case, chart, sheet) in properties() {
+        let (rounds, [archive, passes]) = property(&chart, &sheet, [archive::property, passes::property]);
+        let ratio = archive / passes;
+        println!("| {case:<31} | {rounds:>6} | {:>10.2} | {:>10.2} | {ratio:>14.2} |", archive * 1e6, passes * 1e6);
+    }
+}
+
 fn growth() {
     println!(
         "\nHow the archive's time grows, in microseconds: n states, 2 actions, t triples, drawn; a property of 200 nodes.\n"
@@ -343,6 +300,7 @@ fn growth() {
 
 fn main() -> ExitCode {
     let above = beside_rust();
+    beside_passes();
     growth();
     println!();
     for line in &above {

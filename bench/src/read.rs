@@ -1,4 +1,5 @@
-//! Reading charts and sheets, for both of the Rust implementations: every byte is judged, as the archive does.
+//! Reading charts and sheets, for all of the Rust implementations: every byte is judged, as the archive does. The archive copies a sheet
+//! before it reads it; here it is read where it stands, which is what serves Rust best.
 
 /// What a chart that follows the layout says of itself; its bytes stay where they are.
 #[derive(Clone, Copy)]

@@ -1,6 +1,6 @@
 //! Rust of the archive's own shape: the relation as a byte matrix in the lent buffer, the steps of a state as a range of the
-//! sorted triples, each round over all pairs; formulas evaluated over the sheet's bytes, with a pass over the triples for every
-//! diamond and box.
+//! sorted triples, each round over all pairs; formulas evaluated over the sheet's bytes, with a table of the steps as words, made
+//! once a call, and at each diamond's place in the sheet what it last gave.
 
 use crate::read::{self, Shape};
 
@@ -109,50 +109,92 @@ pub fn simulation(chart: &[u8], buffer: &mut [u8]) -> Option<u64> {
     })
 }
 
-/// One pass over the triples.
-fn diamond(triples: &[[u8; 3]], action: u8, f: u64) -> u64 {
-    let mut w = 0;
-    for &[source, b, target] in triples {
-        if (action == 255 || b == action) && f >> target & 1 == 1 {
-            w |= 1 << source;
-        }
-    }
-    w
-}
-
-/// The word of the formula at a place and the place after it. It was read there, so no byte is judged again.
-fn evaluate(triples: &[[u8; 3]], all: u64, sheet: &[u8], at: usize, set: u64) -> (u64, usize) {
-    match sheet[at] {
-        0 => (set, at + 1),
-        1 => (all, at + 1),
-        2 => (0, at + 1),
-        node @ (3 | 4) => {
-            let (f, between) = evaluate(triples, all, sheet, at + 1, set);
-            let (g, after) = evaluate(triples, all, sheet, between, set);
-            (if node == 3 { f & g } else { f | g }, after)
-        }
-        node => {
-            let action = sheet[at + 1];
-            let (f, after) = evaluate(triples, all, sheet, at + 2, set);
-            (if node == 5 { diamond(triples, action, f) } else { all & !diamond(triples, action, all & !f) }, after)
+/// The table of the steps, n words a row: row 0 for all actions together, row a + 1 for action a. Bit s of a row's word u is set where
+/// s has such a step to u. The words are 0 before.
+fn fill(triples: &[[u8; 3]], n: usize, table: &mut [u64]) {
+    let mut rest = triples.iter().peekable();
+    for s in 0..n {
+        while let Some(&[_, action, target]) = rest.next_if(|triple| triple[0] as usize == s) {
+            let (bit, u) = (1 << s, target as usize);
+            table[u] |= bit;
+            table[(action as usize + 1) * n + u] |= bit;
         }
     }
 }
 
-/// The word, the number of states in it and the rounds.
-#[inline(never)]
-pub fn property(chart: &[u8], sheet: &[u8]) -> Option<(u64, u64, u64)> {
-    let shape = read::chart(chart)?;
-    let kind = read::sheet(sheet, shape.m)?;
-    let triples = triples(chart, shape);
-    let mut set = read::first_set(kind, shape.n);
+/// What a formula is evaluated with.
+struct Evaluation<'a> {
+    sheet: &'a [u8],
+    n: usize,
+    m: usize,
+    all: u64,
+    table: &'a [u64],
+    /// For each place of the sheet the set of its diamond and what that gave, both of the round before.
+    memory: &'a mut [u64],
+}
+
+impl Evaluation<'_> {
+    /// The states with a step into f by the action at the place. Where f has all of the set before, only what is new is walked.
+    fn diamond(&mut self, at: usize, f: u64) -> u64 {
+        let action = self.sheet[at + 1] as usize;
+        let row = if action < self.m { action + 1 } else { 0 };
+        let words = &self.table[row * self.n..][..self.n];
+        let [was, known] = &mut self.memory.as_chunks_mut().0[at];
+        let (mut left, mut w) = if *was & f == *was { (f & !*was, *known) } else { (f, 0) };
+        while left != 0 {
+            w |= words[left.trailing_zeros() as usize];
+            left &= left - 1;
+        }
+        (*was, *known) = (f, w);
+        w
+    }
+
+    /// The word of the formula at a place and the place after it. It was read there, so no byte is judged again.
+    fn formula(&mut self, at: usize, set: u64) -> (u64, usize) {
+        match self.sheet[at] {
+            0 => (set, at + 1),
+            1 => (self.all, at + 1),
+            2 => (0, at + 1),
+            node @ (3 | 4) => {
+                let (f, between) = self.formula(at + 1, set);
+                let (g, after) = self.formula(between, set);
+                (if node == 3 { f & g } else { f | g }, after)
+            }
+            node => {
+                let (f, after) = self.formula(at + 2, set);
+                (if node == 5 { self.diamond(at, f) } else { self.all & !self.diamond(at, self.all & !f) }, after)
+            }
+        }
+    }
+}
+
+/// The word, the number of states in it and the rounds. The table and the memory lie in these words, which are 0.
+#[inline(always)]
+fn solve(chart: &[u8], shape: Shape, sheet: &[u8], kind: u8, words: &mut [u64]) -> (u64, u64, u64) {
+    let Shape { n, m, .. } = shape;
+    let (table, memory) = words.split_at_mut((m + 1) * n);
+    fill(triples(chart, shape), n, table);
+    let mut evaluation = Evaluation { sheet, n, m, all: read::all(n), table, memory };
+    let mut set = read::first_set(kind, n);
     let mut rounds = 0;
     loop {
-        let (next, _) = evaluate(triples, read::all(shape.n), sheet, 3, set);
+        let (next, _) = evaluation.formula(3, set);
         if next == set {
-            return Some((set, set.count_ones() as u64, rounds));
+            return (set, set.count_ones() as u64, rounds);
         }
         set = next;
         rounds += 1;
     }
+}
+
+/// The same, in words no more than are needed: each of them costs time to be made 0.
+#[inline(never)]
+pub fn property(chart: &[u8], sheet: &[u8]) -> Option<(u64, u64, u64)> {
+    let shape = read::chart(chart)?;
+    let kind = read::sheet(sheet, shape.m)?;
+    Some(match (shape.m + 1) * shape.n + 2 * sheet.len() {
+        ..=128 => solve(chart, shape, sheet, kind, &mut [0; 128]),
+        ..=1024 => solve(chart, shape, sheet, kind, &mut [0; 1024]),
+        _ => solve(chart, shape, sheet, kind, &mut [0; 2916]),
+    })
 }
