@@ -263,8 +263,9 @@ fn beside_rust() -> Vec<String> {
     above
 }
 
-/// The table of properties beside Rust that makes no table of the steps: what a small chart pays for it. Nothing is asked of it.
-fn beside_passes() {
+/// The table of properties beside Rust that makes no table of the steps: what a small chart pays for it. As much is asked of it as of the
+/// same shape, which it was once.
+fn beside_passes(above: &mut Vec<String>) {
     println!("\nA property beside Rust that makes no table of the steps: a pass over the triples for every diamond and box.\n");
     println!("| {:<31} | rounds |    archive |     passes | archive/passes |", "case");
     println!("|---|---|---|---|---|");
@@ -272,6 +273,7 @@ fn beside_passes() {
         let (rounds, [archive, passes]) = property(&chart, &sheet, [archive::property, passes::property]);
         let ratio = archive / passes;
         println!("| {case:<31} | {rounds:>6} | {:>10.2} | {:>10.2} | {ratio:>14.2} |", archive * 1e6, passes * 1e6);
+        hold(above, cases::PROPERTY.question, case, "passes", ratio, cases::PROPERTY.same);
     }
 }
 
@@ -299,8 +301,8 @@ fn growth() {
 }
 
 fn main() -> ExitCode {
-    let above = beside_rust();
-    beside_passes();
+    let mut above = beside_rust();
+    beside_passes(&mut above);
     growth();
     println!();
     for line in &above {

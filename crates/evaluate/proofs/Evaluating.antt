@@ -1,6 +1,6 @@
--- The value of a formula that was read, a node at a time.
-use Prim.Native.Nat.{ℕ, _+_, _-_, _<_, _≤_, _^_}
-use mathlib.Core.Path.{_≡_, refl, ap, _∙_}
+-- The word of a formula that was read, a node at a time, and where the reading goes on.
+use Prim.Native.Nat.{ℕ, _+_, _-_, _*_, _/_, _%_, _<_, _≤_, _^_}
+use mathlib.Core.Path.{_≡_, refl, ap, sym, _∙_}
 use mathlib.Core.Bool.{Bool, true, false}
 use mathlib.Core.List.{List}
 use native.Mathlib.Omega.{arith}
@@ -10,16 +10,12 @@ use lib.Dec.{eqb}
 use lib.ListN.{getD}
 use Rattle.settle.specs.Test.{pick}
 use Rattle.sheet.specs.Formula.{Formula, variable, top, bottom, and, or, diamond, box}
-use Rattle.sheet.specs.Reading.{nodeAt, leafOf, twoOf, labelOf, oneOf, Parsed, parsed, wrong, onParsed, operands, parse}
-use Rattle.sheet.proofs.Found.{formula-fewer}
+use Rattle.sheet.specs.Reading.{Leaf, Two, One, nodeAt, leafOf, twoOf, labelOf, oneOf, Parsed, parsed, wrong, onParsed, operands, parse, packed}
 use Rattle.sheet.proofs.Parsing.{parse-node}
+use Rattle.sheet.proofs.Reading.{place-back, left-back, no-fault, read-fewer, read-further, one-operand, second-operand}
 use Rattle.words.proofs.Words.{word-lt}
-use Rattle.evaluate.specs.Evaluating.{rowOf, stepWord, boxWord, tableWord, leafWord, joinedWord, modalWord, WasRead, valueOf}
-use Rattle.evaluate.specs.declared.formula.Valued.{Valued}
+use Rattle.evaluate.specs.Evaluating.{rowOf, stepWord, boxWord, tableWord, leafWord, joinedWord, modalWord, readAt, NodesIn, WasRead, formulaOf}
 use Rattle.evaluate.proofs.Operands.{formula, first-was, some-left, operands-were, is-leaf, is-two, is-one, first-of-two, operand-was}
-
-abbrev pub valued : ℕ → ℕ → ℕ → Valued
-valued w at left = record { word = w; after = at; rest = left }
 
 module _ (into : List ℕ) (n m set : ℕ) where
   abbrev word : Formula → ℕ
@@ -50,9 +46,6 @@ module _ (into : List ℕ) (n m set : ℕ) where
       go true = refl
       go false = refl
 
-  abbrev val : Parsed → Valued
-  val = valueOf into n set
-
   pub word-below : set < 2 ^ n → (f : Formula) → word f < 2 ^ n
   unfolding tableWord
   word-below small variable = small
@@ -63,72 +56,142 @@ module _ (into : List ℕ) (n m set : ℕ) where
   word-below small (diamond l f) = word-lt n _
   word-below small (box l f) = omega (arith, pow-pos n)
 
-  pub value-small : set < 2 ^ n → (u : Parsed) → val u .word < 2 ^ n
-  value-small small (parsed f at left) = word-below small f
-  value-small small (wrong r) = pow-pos n
+  -- of what was read
+  abbrev value : Parsed → ℕ
+  value u = word (formulaOf u)
 
-  -- the second of two operands was read where both were
-  second-was : (u : Parsed) (read : ℕ → ℕ → Parsed) (next : Formula → Formula → ℕ → ℕ → Parsed)
-      → WasRead (onParsed u (λ f between some. onParsed (read between some) (next f))) → WasRead (read (val u .after) (val u .rest))
-  second-was (parsed f at left) read next w = first-was (read at left) (next f) w
-  second-was (wrong r) read next w = absurd w
-
-  one-value : (u : Parsed) (node a : ℕ) → WasRead u
-      → val (onParsed u (λ f after rest. parsed (oneOf node a f) after rest)) ≡ valued (modalWord into n node a (val u .word)) (val u .after) (val u .rest)
-  one-value (parsed f at left) node a w = ap (λ (x : ℕ). valued x at left) (modal-word node a f)
+  one-value : (u : Parsed) (node a : ℕ) → WasRead u → value (onParsed u (λ f after rest. parsed (oneOf node a f) after rest)) ≡ modalWord into n node a (value u)
+  one-value (parsed f at left) node a w = modal-word node a f
   one-value (wrong r) node a w = absurd w
 
-  last-value : (u : Parsed) (node : ℕ) (f : Formula) → WasRead u
-      → val (onParsed u (λ g after rest. parsed (twoOf node f g) after rest)) ≡ valued (joinedWord node (word f) (val u .word)) (val u .after) (val u .rest)
-  last-value (parsed g at left) node f w = ap (λ (x : ℕ). valued x at left) (joined-word node f g)
+  last-value : (u : Parsed) (node : ℕ) (f : Formula) → WasRead u → value (onParsed u (λ g after rest. parsed (twoOf node f g) after rest)) ≡ joinedWord node (word f) (value u)
+  last-value (parsed g at left) node f w = joined-word node f g
   last-value (wrong r) node f w = absurd w
 
-  two-values : (u : Parsed) (read : ℕ → ℕ → Parsed) (node : ℕ) → WasRead u → WasRead (read (val u .after) (val u .rest))
-      → val (onParsed u (λ f between some. onParsed (read between some) (λ g after rest. parsed (twoOf node f g) after rest)))
-      ≡ valued (joinedWord node (val u .word) (val (read (val u .after) (val u .rest)) .word)) (val (read (val u .after) (val u .rest)) .after) (val (read (val u .after) (val u .rest)) .rest)
-  two-values (parsed f at left) read node w v = last-value (read at left) node f v
-  two-values (wrong r) read node w v = absurd w
+-- ---- where the reading goes on
 
-  module _ (b : List ℕ) (at left : ℕ) (was : WasRead (parse left b m at left)) where
-    -- the value of the formula at a place
-    abbrev value : ℕ → ℕ → Valued
-    value at left = val (parse left b m at left)
+module _ (b : List ℕ) (m : ℕ) where
+  pub unpacked : (at left : ℕ) → at < 512 → readAt b m (at + 512 * left) ≡ parse left b m at left
+  unpacked at left h = rw (place-back at left h, left-back at left h)
 
-    pub value-fewer : valueOf into n set (parse left b m at left) .rest < left
-    value-fewer = go (parse left b m at left) refl was
+  -- a formula that was read
+  module _ (next : ℕ) (read : NodesIn next × WasRead (readAt b m next)) where
+    below-faults : packed (readAt b m next) < 131072
+    below-faults = go (readAt b m next) refl (read .1)
       where
-        go : (u : Parsed) → parse left b m at left ≡ u → WasRead u → val u .rest < left
-        go (parsed f after rest) e w = formula-fewer left b m at left f after rest e
+        go : (u : Parsed) → readAt b m next ≡ u → WasRead u → packed u < 131072
+        go (parsed f after rest) e w = no-fault b m (next % 512) (next / 512) (read .0) f after rest e .1
         go (wrong r) e w = absurd w
+
+    pub next-fewer : packed (readAt b m next) / 512 < next / 512
+    next-fewer = read-fewer b m (next % 512) (next / 512) (read .0) below-faults
+
+    next-in : NodesIn (packed (readAt b m next))
+    next-in = omega (arith, read .0, read-further b m (next % 512) (next / 512) (read .0) below-faults)
+
+  module _ (next : ℕ) (read : NodesIn next × WasRead (readAt b m next)) where
+    abbrev at : ℕ
+    at = next % 512
+
+    abbrev left : ℕ
+    left = next / 512
 
     abbrev node : ℕ
     node = getD b at 0
 
-    here : value at left ≡ val (operands (nodeAt b m at) (left - 1) (formula b m at left was))
-    here = ap val (parse-node b m at left (some-left b m at left was))
+    pub some-node : 512 ≤ next
+    some-node = omega (arith, some-left b m at left (read .1))
+
+    here : readAt b m next ≡ operands (nodeAt b m at) (left - 1) (formula b m at left (read .1))
+    here = parse-node b m at left (some-left b m at left (read .1))
+
+    -- after the node, of one or two bytes, there is one node fewer
+    module _ (k : ℕ) (few : k ≤ 2) where
+      on : next - 512 + k ≡ at + k + 512 * (left - 1)
+      on = omega (arith, some-node)
+
+      operand-at : readAt b m (next - 512 + k) ≡ parse (left - 1) b m (at + k) (left - 1)
+      operand-at = rw on (unpacked (at + k) (left - 1) (omega (arith, read .0, some-node)))
+
+      pub operand-fewer : (next - 512 + k) / 512 < next / 512
+      operand-fewer = omega (arith, read .0, some-node)
+
+      operand-in : NodesIn (next - 512 + k)
+      operand-in = omega (arith, read .0, some-node)
 
     -- 0 to 2
-    pub leaf-value : getD b at 0 < 3 → valueOf into n set (parse left b m at left) ≡ valued (leafWord n node set) (at + 1) (left - 1)
-    leaf-value known = here ∙ rw (is-leaf b m at left was known) (ap (λ (x : ℕ). valued x (at + 1) (left - 1)) (leaf-word node))
+    module _ (known : getD b (next % 512) 0 < 3) where
+      leaf : nodeAt b m at ≡ Leaf node (at + 1)
+      leaf = is-leaf b m at left (read .1) known
+
+      pub leaf-next : packed (readAt b m next) ≡ next - 512 + 1
+      leaf-next = ap packed here ∙ rw leaf (sym (on 1 (omega arith)))
+
+      pub leaf-value : (into : List ℕ) (n set : ℕ) → tableWord into n (formulaOf (readAt b m next)) set ≡ leafWord n (getD b (next % 512) 0) set
+      leaf-value into n set = ap (value into n m set) here ∙ rw leaf (leaf-word into n m set node)
 
     -- 3 and 4
-    module _ (above : 3 ≤ getD b at 0) (known : getD b at 0 < 5) where
-      abbrev first : Valued
-      first = value (at + 1) (left - 1)
+    module _ (above : 3 ≤ getD b (next % 512) 0) (known : getD b (next % 512) 0 < 5) where
+      abbrev first : Parsed
+      first = readAt b m (next - 512 + 1)
 
-      abbrev second : Valued
-      second = value (first .after) (first .rest)
+      abbrev second : Parsed
+      second = readAt b m (packed first)
 
-      pub second-of-two : WasRead (parse (first .rest) b m (first .after) (first .rest))
-      second-of-two = second-was (parse (left - 1) b m (at + 1) (left - 1)) (formula b m at left was) (λ f g after rest. parsed (twoOf node f g) after rest) (rw (is-two b m at left was above known) at (operands-were b m at left was))
+      two : nodeAt b m at ≡ Two node (at + 1)
+      two = is-two b m at left (read .1) above known
 
-      pub two-value : valueOf into n set (parse left b m at left) ≡ valued (joinedWord node (first .word) (second .word)) (second .after) (second .rest)
-      two-value = here ∙ rw (is-two b m at left was above known) (two-values (parse (left - 1) b m (at + 1) (left - 1)) (formula b m at left was) node (first-of-two b m at left was above known) second-of-two)
+      first-is : first ≡ parse (left - 1) b m (at + 1) (left - 1)
+      first-is = operand-at 1 (omega arith)
+
+      pub first-read : NodesIn (next - 512 + 1) × WasRead (readAt b m (next - 512 + 1))
+      first-read = (operand-in 1 (omega arith), rw first-is (first-of-two b m at left (read .1) above known))
+
+      first-in : at + 1 + 2 * (left - 1) ≤ 510
+      first-in = omega (arith, read .0, some-node)
+
+      -- the second was read where the first ended
+      second-is : (f : Formula) (between some : ℕ) → first ≡ parsed f between some → readAt b m (between + 512 * some) ≡ parse some b m between some
+      second-is f between some e = unpacked between some (no-fault b m (at + 1) (left - 1) first-in f between some (sym first-is ∙ e) .0)
+
+      pub second-read : NodesIn (packed (readAt b m (next - 512 + 1))) × WasRead (readAt b m (packed (readAt b m (next - 512 + 1))))
+      second-read = (next-in (next - 512 + 1) first-read, go first refl (rw (two, ← first-is) at (operands-were b m at left (read .1))))
+        where
+          go : (u : Parsed) → first ≡ u → WasRead (onParsed u (λ f between some. onParsed (parse some b m between some) (λ g after rest. parsed (twoOf node f g) after rest)))
+              → WasRead (readAt b m (packed u))
+          go (parsed f between some) e w = rw (second-is f between some e) (first-was (parse some b m between some) _ w)
+          go (wrong r) e w = absurd w
+
+      pub two-next : packed (readAt b m next) ≡ packed (readAt b m (packed (readAt b m (next - 512 + 1))))
+      two-next = rw first-is (second-operand b m at left (some-left b m at left (read .1)) two (rw first-is at (below-faults (next - 512 + 1) first-read)) first-in)
+
+      pub two-value : (into : List ℕ) (n set : ℕ) → tableWord into n (formulaOf (readAt b m next)) set
+          ≡ joinedWord (getD b (next % 512) 0) (tableWord into n (formulaOf first) set) (tableWord into n (formulaOf second) set)
+      two-value into n set = ap (value into n m set) here ∙ rw (two, ← first-is) (go first refl (first-read .1) (second-read .1))
+        where
+          go : (u : Parsed) → first ≡ u → WasRead u → WasRead (readAt b m (packed u))
+              → value into n m set (onParsed u (λ f between some. onParsed (parse some b m between some) (λ g after rest. parsed (twoOf node f g) after rest)))
+              ≡ joinedWord node (value into n m set u) (value into n m set (readAt b m (packed u)))
+          go (parsed f between some) e w v = rw (second-is f between some e) (last-value into n m set (parse some b m between some) node f (rw (second-is f between some e) at v))
+          go (wrong r) e w v = absurd w
 
     -- 5 and 6
-    module _ (above : 5 ≤ getD b at 0) where
-      abbrev operand : Valued
-      operand = value (at + 2) (left - 1)
+    module _ (above : 5 ≤ getD b (next % 512) 0) where
+      abbrev operand : Parsed
+      operand = readAt b m (next - 512 + 2)
 
-      pub modal-value : valueOf into n set (parse left b m at left) ≡ valued (modalWord into n node (getD b (at + 1) 0) (operand .word)) (operand .after) (operand .rest)
-      modal-value = here ∙ rw (is-one b m at left was above .1) (one-value (parse (left - 1) b m (at + 2) (left - 1)) node (getD b (at + 1) 0) (operand-was b m at left was above))
+      one : nodeAt b m at ≡ One node (getD b (at + 1) 0) (at + 2)
+      one = is-one b m at left (read .1) above .1
+
+      operand-is : operand ≡ parse (left - 1) b m (at + 2) (left - 1)
+      operand-is = operand-at 2 (omega arith)
+
+      pub operand-read : NodesIn (next - 512 + 2) × WasRead (readAt b m (next - 512 + 2))
+      operand-read = (operand-in 2 (omega arith), rw operand-is (operand-was b m at left (read .1) above))
+
+      pub modal-next : packed (readAt b m next) ≡ packed (readAt b m (next - 512 + 2))
+      modal-next = rw operand-is (one-operand b m at left (some-left b m at left (read .1)) one)
+
+      pub modal-value : (into : List ℕ) (n set : ℕ) → tableWord into n (formulaOf (readAt b m next)) set
+          ≡ modalWord into n (getD b (next % 512) 0) (getD b (next % 512 + 1) 0) (tableWord into n (formulaOf operand) set)
+      modal-value into n set = ap (value into n m set) here ∙ rw (one, ← operand-is) (one-value into n m set operand node (getD b (at + 1) 0) (operand-read .1))

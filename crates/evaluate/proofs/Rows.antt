@@ -15,18 +15,18 @@ use Rattle.sheet.specs.Reading.{labelOf, Parsed, parsed, wrong, parse}
 use Rattle.sheet.proofs.Found.{formula-found}
 use Rattle.words.proofs.Words.{word-cong}
 use Rattle.steps.proofs.Leads.{leads-same}
-use Rattle.evaluate.specs.Evaluating.{rowOf, stepWord, boxWord, tableWord, ActionIn, SameRows, modalWord, valueOf}
+use Rattle.evaluate.specs.Evaluating.{rowOf, stepWord, boxWord, tableWord, ActionIn, SameRows, modalWord, formulaOf}
 use Rattle.evaluate.proofs.Modal.{member-below}
-use Rattle.evaluate.proofs.Evaluating.{valued, word-below}
+use Rattle.evaluate.proofs.Evaluating.{word-below}
 
 -- the actions of a formula that was read are the chart's
-abbrev pub Labelled : ℕ → Parsed → Type 0
-Labelled m (parsed f at left) = LabelsIn m f
-Labelled m (wrong r) = Unit {0}
-
-pub read-labelled : (b : List ℕ) (m at left : ℕ) (u : Parsed) → parse left b m at left ≡ u → Labelled m u
-read-labelled b m at left (parsed f after rest) e = formula-found left b m at left f after rest e .labels-in
-read-labelled b m at left (wrong r) e = tt
+pub read-labels : (b : List ℕ) (m at left : ℕ) → LabelsIn m (formulaOf (parse left b m at left))
+unfolding LabelsIn
+read-labels b m at left = go (parse left b m at left) refl
+  where
+    go : (u : Parsed) → parse left b m at left ≡ u → LabelsIn m (formulaOf u)
+    go (parsed f after rest) e = formula-found left b m at left f after rest e .labels-in
+    go (wrong r) e = tt
 
 -- an action has a row
 label-row : (m : ℕ) (l : Label) → LabelIn m l → rowOf l ≤ m
@@ -57,7 +57,3 @@ module _ (n m : ℕ) (old new : List ℕ) (same : SameRows n m old new) where
   word-same (or f g) h set small = rw (word-same f (h .0) set small, word-same g (h .1) set small)
   word-same (diamond l f) h set small = rw (word-same f (h .1) set small) (step-same (rowOf l) _ (label-row m l (h .0)) (word-below old n m set small f))
   word-same (box l f) h set small = rw (word-same f (h .1) set small) (box-same (rowOf l) _ (label-row m l (h .0)))
-
-  pub value-same : (set : ℕ) → set < 2 ^ n → (u : Parsed) → Labelled m u → valueOf new n set u ≡ valueOf old n set u
-  value-same set small (parsed f at left) h = ap (λ (x : ℕ). valued x at left) (word-same f h set small)
-  value-same set small (wrong r) h = refl

@@ -1,5 +1,5 @@
 -- What the parts of the evaluator say of themselves. The promise of the question cites none of it.
-use Prim.Native.Nat.{ℕ, _+_, _-_, _*_, _^_, _≤_, _<_}
+use Prim.Native.Nat.{ℕ, _+_, _-_, _*_, _/_, _%_, _^_, _≤_, _<_}
 use mathlib.Core.Path.{_≡_}
 use mathlib.Core.List.{List}
 use mathlib.Core.Logic.{_⊎_}
@@ -8,10 +8,9 @@ use lib.Bits.{bitAnd, bitOr}
 use lib.ListN.{length, getD}
 use Rattle.settle.specs.Test.{pick}
 use Rattle.sheet.specs.Formula.{Label, only, every, Formula, variable, top, bottom, and, or, diamond, box}
-use Rattle.sheet.specs.Reading.{labelOf, Parsed, parsed, wrong}
+use Rattle.sheet.specs.Reading.{labelOf, Parsed, parsed, wrong, parse}
 use Rattle.words.specs.Words.{wordOf}
 use Rattle.steps.specs.Walk.{leads}
-use Rattle.evaluate.specs.declared.formula.Valued.{Valued}
 
 -- ---- a formula's word, by the table of a chart's steps; that it is the word of the states at which the formula holds is the law `table-holds`
 
@@ -68,10 +67,25 @@ SameRows n m old new = (e : ℕ) → e < (m + 1) * n → getD new e 0 ≡ getD o
 abbrev pub Kept : ℕ → ℕ → List ℕ → List ℕ → List ℕ → Type 0
 Kept n m sheet old new = SameRows n m old new × Remembers n m sheet new
 
--- a formula was read; one that stands in an accepted sheet is not judged again
+-- ---- a formula that was read
+
+-- what is read at a place, where the place and the nodes still unread are one number, as the reader packs them
+abbrev pub readAt : List ℕ → ℕ → ℕ → Parsed
+readAt sheet m next = parse (next / 512) sheet m (next % 512) (next / 512)
+
+-- at most two bytes a node, so many nodes stand before place 510
+abbrev pub NodesIn : ℕ → Type 0
+NodesIn next = next % 512 + 2 * (next / 512) ≤ 510
+
+-- one that stands in an accepted sheet was read, and is not judged again
 abbrev pub WasRead : Parsed → Type 0
 WasRead (parsed f at left) = Unit {0}
 WasRead (wrong r) = ⊥
+
+-- the formula; false where none was read
+abbrev pub formulaOf : Parsed → Formula
+formulaOf (parsed f at left) = f
+formulaOf (wrong r) = bottom
 
 -- ---- the word of a node from the words of its operands
 
@@ -83,8 +97,3 @@ joinedWord node v w = pick (eqb node 3) (bitAnd v w) (bitOr v w)
 
 abbrev pub modalWord : List ℕ → ℕ → ℕ → ℕ → ℕ → ℕ
 modalWord into n node a w = pick (eqb node 5) (stepWord into n (rowOf (labelOf a)) w) (boxWord into n (rowOf (labelOf a)) w)
-
--- what the evaluator says of a formula that was read: its word, the place after it and the nodes still unread
-abbrev pub valueOf : List ℕ → ℕ → ℕ → Parsed → Valued
-valueOf into n set (parsed f at left) = record { word = tableWord into n f set; after = at; rest = left }
-valueOf into n set (wrong r) = record { word = 0; after = 0; rest = 0 }

@@ -1,19 +1,11 @@
 // The word of a formula: the states at which it holds, with a word for the variable. The words that a call works on are the table of the chart's
 // steps and, after its rows, two for each place of the sheet.
-use chart::Shape;
 ghost use mathlib.Core.Path.{_≡_};
 ghost use Prim.Native.Nat.{_+_, _*_, _≤_, _<_, _^_};
 ghost use lib.ListN.{length, getD};
-ghost use Rattle.sheet.specs.Reading.{labelOf, parse};
-ghost use Rattle.evaluate.specs.Evaluating.{rowOf, stepWord, leafWord, joinedWord, modalWord, valueOf};
-ghost use Rattle.evaluate.specs.Evaluating.{Serves, ActionIn, Remembers, Kept, WasRead};
-
-// A formula that was evaluated: its word, the place after it, and the nodes still unread.
-pub struct Valued {
-    pub word: u64,
-    pub after: usize,
-    pub rest: usize,
-}
+ghost use Rattle.sheet.specs.Reading.{labelOf, packed};
+ghost use Rattle.evaluate.specs.Evaluating.{rowOf, stepWord, tableWord, leafWord, joinedWord, modalWord, formulaOf};
+ghost use Rattle.evaluate.specs.Evaluating.{Serves, ActionIn, Remembers, Kept, readAt, NodesIn, WasRead};
 
 // The row of an action byte: an action has its own, 255 that of all actions together.
 fn row_of(m: usize, a: u8) -> usize
@@ -42,36 +34,36 @@ fn stepped(into: &[u64], n: usize, row: usize, was: u64, known: u64, f: u64) -> 
 }
 
 // The diamond at a place of the sheet. What it leads to and what it gives are remembered for the next round.
-fn diamond(shape: Shape, work: &mut [u64], sheet: &[u8], at: usize, f: u64) -> u64
-    requires { ⌜ Remembers (shape .n) (shape .m) (now sheet) (now work) ⌝ }
-    requires { ⌜ (at + 1 < length (now sheet)) × ActionIn (shape .m) (getD (now sheet) (at + 1) 0) ⌝ }
-    requires { ⌜ f < 2 ^ shape .n ⌝ }
-    ensures { λ r. ⌜ r ≡ stepWord (now (work .entry)) (shape .n) (rowOf (labelOf (getD (now (sheet .entry)) (at + 1) 0))) f ⌝ }
-    ensures { λ _. ⌜ Kept (shape .n) (shape .m) (now (sheet .entry)) (now (work .entry)) (now (work .exit)) ⌝ }
+fn diamond(n: usize, m: usize, work: &mut [u64], sheet: &[u8], at: usize, f: u64) -> u64
+    requires { ⌜ Remembers n m (now sheet) (now work) ⌝ }
+    requires { ⌜ (at + 1 < length (now sheet)) × ActionIn m (getD (now sheet) (at + 1) 0) ⌝ }
+    requires { ⌜ f < 2 ^ n ⌝ }
+    ensures { λ r. ⌜ r ≡ stepWord (now (work .entry)) n (rowOf (labelOf (getD (now (sheet .entry)) (at + 1) 0))) f ⌝ }
+    ensures { λ _. ⌜ Kept n m (now (sheet .entry)) (now (work .entry)) (now (work .exit)) ⌝ }
 {
-    let row = row_of(shape.m, sheet[at + 1]);
-    let memo = (shape.m + 1) * shape.n + 2 * at;
+    let row = row_of(m, sheet[at + 1]);
+    let memo = (m + 1) * n + 2 * at;
     let was = work[memo];
     let known = work[memo + 1];
-    let w = stepped(work, shape.n, row, was, known, f);
+    let w = stepped(work, n, row, was, known, f);
     work[memo] = f;
     work[memo + 1] = w;
     w
 }
 
 // The word of a diamond or a box at a place, from that of its operand. A box holds where no step leads to the others.
-fn modal_word(shape: Shape, work: &mut [u64], sheet: &[u8], at: usize, f: u64) -> u64
-    requires { ⌜ Remembers (shape .n) (shape .m) (now sheet) (now work) ⌝ }
-    requires { ⌜ (at + 1 < length (now sheet)) × ActionIn (shape .m) (getD (now sheet) (at + 1) 0) ⌝ }
-    requires { ⌜ f < 2 ^ shape .n ⌝ }
-    ensures { λ r. ⌜ r ≡ modalWord (now (work .entry)) (shape .n) (getD (now (sheet .entry)) at 0) (getD (now (sheet .entry)) (at + 1) 0) f ⌝ }
-    ensures { λ _. ⌜ Kept (shape .n) (shape .m) (now (sheet .entry)) (now (work .entry)) (now (work .exit)) ⌝ }
+fn modal_word(n: usize, m: usize, work: &mut [u64], sheet: &[u8], at: usize, f: u64) -> u64
+    requires { ⌜ Remembers n m (now sheet) (now work) ⌝ }
+    requires { ⌜ (at + 1 < length (now sheet)) × ActionIn m (getD (now sheet) (at + 1) 0) ⌝ }
+    requires { ⌜ f < 2 ^ n ⌝ }
+    ensures { λ r. ⌜ r ≡ modalWord (now (work .entry)) n (getD (now (sheet .entry)) at 0) (getD (now (sheet .entry)) (at + 1) 0) f ⌝ }
+    ensures { λ _. ⌜ Kept n m (now (sheet .entry)) (now (work .entry)) (now (work .exit)) ⌝ }
 {
     if sheet[at] == 5 {
-        return diamond(shape, work, sheet, at, f);
+        return diamond(n, m, work, sheet, at, f);
     }
-    let all = words::all(shape.n);
-    all - diamond(shape, work, sheet, at, all - f)
+    let all = words::all(n);
+    all - diamond(n, m, work, sheet, at, all - f)
 }
 
 // The word of the variable, of true or of false.
@@ -98,42 +90,36 @@ fn joined_word(node: u8, v: u64, w: u64) -> u64
     words::union(v, w)
 }
 
-// The word of the formula at a place, of at most left nodes, with set for the variable: it was read there, so no byte is judged again.
+// The word of the formula at a place, with set for the variable: it was read there, so no byte is judged again. The place and 512 times the nodes
+// still unread are one number, as the reader has it, and end at what follows the formula.
 pub fn eval_formula(
-    shape: Shape,
+    n: usize,
+    m: usize,
     work: &mut [u64],
     sheet: &[u8],
-    at: usize,
-    left: usize,
+    next: &mut usize,
     set: u64,
-) -> Valued
-    requires { ⌜ Remembers (shape .n) (shape .m) (now sheet) (now work) ⌝ }
-    requires { ⌜ WasRead (parse left (now sheet) (shape .m) at left) ⌝ }
-    requires { ⌜ set < 2 ^ shape .n ⌝ }
-    ensures { λ r. ⌜ r ≡ valueOf (now (work .entry)) (shape .n) set (parse left (now (sheet .entry)) (shape .m) at left) ⌝ }
-    ensures { λ _. ⌜ Kept (shape .n) (shape .m) (now (sheet .entry)) (now (work .entry)) (now (work .exit)) ⌝ }
+) -> u64
+    requires { ⌜ Remembers n m (now sheet) (now work) ⌝ }
+    requires { ⌜ NodesIn (now next) × WasRead (readAt (now sheet) m (now next)) ⌝ }
+    requires { ⌜ set < 2 ^ n ⌝ }
+    ensures { λ r. ⌜ r ≡ tableWord (now (work .entry)) n (formulaOf (readAt (now (sheet .entry)) m (now (next .entry)))) set ⌝ }
+    ensures { λ _. ⌜ now (next .exit) ≡ packed (readAt (now (sheet .entry)) m (now (next .entry))) ⌝ }
+    ensures { λ _. ⌜ Kept n m (now (sheet .entry)) (now (work .entry)) (now (work .exit)) ⌝ }
 {
+    let at = *next % 512;
     let node = sheet[at];
     if node < 3 {
-        return Valued {
-            word: leaf_word(shape.n, node, set),
-            after: at + 1,
-            rest: left - 1,
-        };
+        *next = *next - 512 + 1;
+        return leaf_word(n, node, set);
     }
     if node < 5 {
-        let f = eval_formula(shape, work, sheet, at + 1, left - 1, set);
-        let g = eval_formula(shape, work, sheet, f.after, f.rest, set);
-        return Valued {
-            word: joined_word(node, f.word, g.word),
-            after: g.after,
-            rest: g.rest,
-        };
+        *next = *next - 512 + 1;
+        let f = eval_formula(n, m, work, sheet, next, set);
+        let g = eval_formula(n, m, work, sheet, next, set);
+        return joined_word(node, f, g);
     }
-    let f = eval_formula(shape, work, sheet, at + 2, left - 1, set);
-    Valued {
-        word: modal_word(shape, work, sheet, at, f.word),
-        after: f.after,
-        rest: f.rest,
-    }
+    *next = *next - 512 + 2;
+    let f = eval_formula(n, m, work, sheet, next, set);
+    modal_word(n, m, work, sheet, at, f)
 }

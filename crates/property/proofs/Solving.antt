@@ -1,6 +1,6 @@
 -- The rounds, on words: what one application gives, and when it changes nothing.
 use Prim.Native.Nat.{ℕ, suc, _+_, _-_, _<_, _≤_, _^_}
-use mathlib.Core.Path.{_≡_, refl, ap, sym, _∙_}
+use mathlib.Core.Path.{_≡_, ap, sym, _∙_}
 use mathlib.Core.Bool.{Bool}
 use mathlib.Core.List.{List}
 use native.Mathlib.Omega.{arith}
@@ -17,17 +17,16 @@ use Rattle.chart.specs.declared.Shape.{Shape}
 use Rattle.chart.proofs.Accepted.{accepted, each-step}
 use Rattle.sheet.specs.Formula.{Formula}
 use Rattle.sheet.specs.Meaning.{holds}
-use Rattle.sheet.specs.Layout.{LabelsIn}
-use Rattle.sheet.specs.Reading.{Parsed, parsed, wrong, parse}
+use Rattle.sheet.specs.Reading.{parse}
 use Rattle.sheet.proofs.Meaning.{TargetsBelow, holds-same}
 use Rattle.words.specs.Words.{wordOf, member}
 use Rattle.words.proofs.Words.{word-none, all-word, word-cong, word-member}
 use Rattle.steps.specs.Table.{ReadAs, Table}
-use Rattle.evaluate.specs.Evaluating.{tableWord, memoAt, Remembers, SameRows, valueOf}
+use Rattle.evaluate.specs.Evaluating.{tableWord, memoAt, Remembers, SameRows, formulaOf}
 use Rattle.evaluate.proofs.Modal.{table-holds}
-use Rattle.evaluate.proofs.Rows.{Labelled, read-labelled, word-same}
+use Rattle.evaluate.proofs.Rows.{read-labels, word-same}
 use Rattle.evaluate.proofs.Stepped.{remembers-none}
-use Rattle.property.specs.Solving.{formulaOf, application}
+use Rattle.property.specs.Solving.{application}
 
 pub empty-word : (n : ℕ) → 0 ≡ wordOf n empty
 unfolding empty
@@ -36,12 +35,6 @@ empty-word n = sym (word-none n)
 pub full-word : (n : ℕ) → 2 ^ n - 1 ≡ wordOf n full
 unfolding full
 full-word n = sym (all-word n)
-
--- what the evaluator says is the word of the formula
-pub round-word : (into : List ℕ) (n set : ℕ) (u : Parsed) → valueOf into n set u .word ≡ tableWord into n (formulaOf u) set
-unfolding tableWord
-round-word into n set (parsed f at left) = refl
-round-word into n set (wrong r) = refl
 
 -- ---- by the table of the chart's steps
 
@@ -58,17 +51,12 @@ module _ (s : List ℕ) (sh : Shape) (b : List ℕ) (nodes : ℕ) (made : List �
   made-remembers size = remembers-none (sh .n) (sh .m) b made
       (record { states-few = accepted s sh e .states-few; actions-few = accepted s sh e .actions-few; room = T .room; no-bit-above = T .no-bit-above }) size (T .none-after)
 
-  labels-in : (u : Parsed) → Labelled (sh .m) u → LabelsIn (sh .m) (formulaOf u)
-  unfolding LabelsIn
-  labels-in (parsed f at left) h = h
-  labels-in (wrong r) h = tt
-
   -- the word of the formula is that of one application, as long as the rows are what they were
   pub table-application : (work : List ℕ) → SameRows (sh .n) (sh .m) made work → (set : ℕ) → set < 2 ^ sh .n
       → tableWord work (sh .n) (formulaOf (parse nodes b (sh .m) 3 nodes)) set ≡ wordOf (sh .n) (application s sh b nodes (member set))
   table-application work same set small =
       let read = parse nodes b (sh .m) 3 nodes in
-      let labels = labels-in read (read-labelled b (sh .m) 3 nodes read refl) in
+      let labels = read-labels b (sh .m) 3 nodes in
       word-same (sh .n) (sh .m) made work same (formulaOf read) labels set small
       ∙ table-holds (sh .n) (sh .m) (accepted s sh e .states-few) (chartIn s sh .steps) (λ u i. each-step s sh e u i .target-in) (λ u i. each-step s sh e u i .action-in) made T (formulaOf read) labels set small
 

@@ -9,19 +9,14 @@ use Rattle.settle.specs.Chain.{empty, full, chain, Settled, Rounds}
 use Rattle.refusal.specs.Refusal.{lentRefusal}
 use Rattle.chart.specs.Reading.{chartIn}
 use Rattle.chart.specs.declared.Shape.{Shape}
-use Rattle.sheet.specs.Formula.{Formula, bottom}
 use Rattle.sheet.specs.Meaning.{holds}
-use Rattle.sheet.specs.Reading.{Parsed, parsed, wrong, parse}
+use Rattle.sheet.specs.Reading.{parse}
 use Rattle.sheet.specs.Solution.{asksLeast}
 use Rattle.words.specs.Words.{wordOf}
+use Rattle.evaluate.specs.Evaluating.{formulaOf}
 use Rattle.property.specs.declared.Solved.{Solved}
 use Rattle.property.specs.declared.PropertyAnswer.{PropertyAnswer}
 use Rattle.property.specs.declared.PropertyAnswer.the-variants.{Satisfied, Refused}
-
--- the formula that was read; false where none was
-abbrev pub formulaOf : Parsed → Formula
-formulaOf (parsed f at left) = f
-formulaOf (wrong r) = bottom
 
 -- one application, for the bytes of a chart with these counts and of a sheet with so many nodes
 abbrev pub application : List ℕ → Shape → List ℕ → ℕ → (ℕ → Bool) → ℕ → Bool

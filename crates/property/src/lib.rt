@@ -9,8 +9,8 @@ ghost use lib.ListN.{length};
 ghost use Rattle.sheet.specs.Reading.{parse};
 ghost use Rattle.words.specs.Words.{wordOf};
 ghost use Rattle.steps.specs.Table.{ReadAs, Blank};
-ghost use Rattle.evaluate.specs.Evaluating.{tableWord, memoAt, Remembers, Kept, WasRead};
-ghost use Rattle.property.specs.Solving.{formulaOf, application, firstSet, Solves};
+ghost use Rattle.evaluate.specs.Evaluating.{tableWord, memoAt, Remembers, Kept, WasRead, formulaOf};
+ghost use Rattle.property.specs.Solving.{application, firstSet, Solves};
 ghost use Rattle.property.specs.Promise.{PropertyPromise};
 
 // Bit s of the word is set where state s satisfies; the number of such states; the rounds.
@@ -36,16 +36,16 @@ fn first_set(kind: u8, n: usize) -> u64
     words::all(n)
 }
 
-// One application: the states at which the sheet's formula holds, with set for the variable.
+// One application: the states at which the sheet's formula, which begins at byte 3, holds with set for the variable.
 fn round(shape: Shape, work: &mut [u64], sheet: &[u8], nodes: usize, set: u64) -> u64
     requires { ⌜ Remembers (shape .n) (shape .m) (now sheet) (now work) ⌝ }
-    requires { ⌜ WasRead (parse nodes (now sheet) (shape .m) 3 nodes) ⌝ }
+    requires { ⌜ (nodes ≤ 200) × WasRead (parse nodes (now sheet) (shape .m) 3 nodes) ⌝ }
     requires { ⌜ set < 2 ^ shape .n ⌝ }
     ensures { λ r. ⌜ r ≡ tableWord (now (work .entry)) (shape .n) (formulaOf (parse nodes (now (sheet .entry)) (shape .m) 3 nodes)) set ⌝ }
     ensures { λ _. ⌜ Kept (shape .n) (shape .m) (now (sheet .entry)) (now (work .entry)) (now (work .exit)) ⌝ }
 {
-    let value = evaluate::formula::eval_formula(shape, work, sheet, 3, nodes, set);
-    value.word
+    let mut next = 3 + 512 * nodes;
+    evaluate::formula::eval_formula(shape.n, shape.m, work, sheet, &mut next, set)
 }
 
 // Applications until one changes nothing, at most 4,096 that do. The chart's steps are made into words first, once, in words that are 0.
@@ -58,7 +58,7 @@ fn solve(
     work: &mut [u64],
 ) -> PropertyAnswer
     requires { ⌜ ReadAs (now chart) shape ⌝ }
-    requires { ⌜ WasRead (parse nodes (now sheet) (shape .m) 3 nodes) ⌝ }
+    requires { ⌜ (nodes ≤ 200) × WasRead (parse nodes (now sheet) (shape .m) 3 nodes) ⌝ }
     requires { ⌜ Blank (now work) × (memoAt (shape .n) (shape .m) (length (now sheet)) ≤ length (now work)) ⌝ }
     ensures { λ r. ⌜ Solves (shape .n) (application (now (chart .entry)) shape (now (sheet .entry)) nodes) (firstSet kind) r ⌝ }
 {
@@ -84,7 +84,7 @@ fn solve(
 // The same in words of its own, as many as the least of three sizes that is enough: each word has to be made 0, which a small chart would pay for.
 fn solve_in_room(chart: &[u8], shape: Shape, sheet: &[u8], nodes: usize, kind: u8) -> PropertyAnswer
     requires { ⌜ ReadAs (now chart) shape ⌝ }
-    requires { ⌜ WasRead (parse nodes (now sheet) (shape .m) 3 nodes) ⌝ }
+    requires { ⌜ (nodes ≤ 200) × WasRead (parse nodes (now sheet) (shape .m) 3 nodes) ⌝ }
     requires { ⌜ length (now sheet) ≤ 402 ⌝ }
     ensures { λ r. ⌜ Solves (shape .n) (application (now (chart .entry)) shape (now (sheet .entry)) nodes) (firstSet kind) r ⌝ }
 {

@@ -60,10 +60,10 @@ module _ (s : List ℕ) (m at : ℕ) (here : at < length s) (above : 5 ≤ getD 
 -- ---- a formula as one number
 
 -- unpacking gives back what was packed: a place is below 512, a refusal's number below 256
-place-back : (at left : ℕ) → at < 512 → (at + 512 * left) % 512 ≡ at
+pub place-back : (at left : ℕ) → at < 512 → (at + 512 * left) % 512 ≡ at
 place-back at left h = omega arith
 
-left-back : (at left : ℕ) → at < 512 → (at + 512 * left) / 512 ≡ left
+pub left-back : (at left : ℕ) → at < 512 → (at + 512 * left) / 512 ≡ left
 left-back at left h = omega arith
 
 number-back : (number place : ℕ) → number < 256 → (131072 + (number + 256 * place) - 131072) % 256 ≡ number
@@ -84,7 +84,7 @@ further s m at left f after rest e =
 
 module _ (s : List ℕ) (m at left : ℕ) (room : at + 2 * left ≤ 510) where
   -- a formula that was read is below all faults
-  no-fault : (f : Formula) (after rest : ℕ) → parse left s m at left ≡ parsed f after rest → (after < 512) × (after + 512 * rest < 131072)
+  pub no-fault : (f : Formula) (after rest : ℕ) → parse left s m at left ≡ parsed f after rest → (after < 512) × (after + 512 * rest < 131072)
   no-fault f after rest e = (omega (arith, further s m at left f after rest e), omega (arith, further s m at left f after rest e))
 
   -- and has at least one node
@@ -111,7 +111,7 @@ last-read (parsed f after rest) g = refl
 last-read (wrong r) g = refl
 
 module _ (s : List ℕ) (m at left : ℕ) (some : left ≡ 0 → ⊥) where
-  one-operand : {node byte next : ℕ} → nodeAt s m at ≡ One node byte next → read s m at left ≡ read s m next (left - 1)
+  pub one-operand : {node byte next : ℕ} → nodeAt s m at ≡ One node byte next → read s m at left ≡ read s m next (left - 1)
   one-operand {node} {byte} {next} e = rw (parse-node s m at left some, e) (last-read (parse (left - 1) s m next (left - 1)) (oneOf node byte))
 
   -- the first of two is at fault, or the second is read where it ended
@@ -124,7 +124,7 @@ module _ (s : List ℕ) (m at left : ℕ) (some : left ≡ 0 → ⊥) where
         go (parsed f between rest) e h = absurd (omega (arith, no-fault s m next (left - 1) room f between rest e))
         go (wrong r) e h = refl
 
-    second-operand : read s m next (left - 1) < 131072 → next + 2 * (left - 1) ≤ 510
+    pub second-operand : read s m next (left - 1) < 131072 → next + 2 * (left - 1) ≤ 510
         → read s m at left ≡ read s m (read s m next (left - 1) % 512) (read s m next (left - 1) / 512)
     second-operand h room = rw (parse-node s m at left some, two) (go (parse (left - 1) s m next (left - 1)) refl h)
       where

@@ -35,7 +35,7 @@ solve-in-room-requires c κs =
     let start = c .before .before .before .before .before .before .before .before .before .before in
     let sh = c .before .before .before .before .before .s .given .0 .0 in
     let F = formed (start .args .sheet .now) (sh .m) (c .before .o .given .0 .0) (sym (c .before .before .before .read-sheet .ensures .0) ∙ c .before .o .given .1) in
-    (sym (c .before .before .before .before .before .before .before .read-chart .ensures .0) ∙ c .before .before .before .before .before .s .given .1, (rw (F .parsed-is) tt, accepted-short _ _ _ _ _ (F .read-is)))
+    (sym (c .before .before .before .before .before .before .before .read-chart .ensures .0) ∙ c .before .before .before .before .before .s .given .1, ((F .nodes-few, rw (F .parsed-is) tt), accepted-short _ _ _ _ _ (F .read-is)))
 
 returns-3 : tie.Need-returns-3
 returns-3 c =

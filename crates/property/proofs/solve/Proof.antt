@@ -9,8 +9,8 @@ use Rattle.chart.proofs.Accepted.{accepted, each-step}
 use Rattle.sheet.specs.Reading.{parse}
 use Rattle.words.proofs.Words.{word-small}
 use Rattle.steps.specs.Table.{Table}
-use Rattle.evaluate.specs.Evaluating.{Remembers, SameRows}
-use Rattle.property.specs.Solving.{formulaOf, application, firstSet}
+use Rattle.evaluate.specs.Evaluating.{Remembers, SameRows, formulaOf}
+use Rattle.property.specs.Solving.{application, firstSet}
 use Rattle.property.proofs.Solving.{made-remembers, table-application, Rounding, started, one-more, settled-rounds, never-settled}
 use Rattle.property.proofs.solve.Statement.{statement}
 use Rattle.property.proofs.solve.Tie as tie

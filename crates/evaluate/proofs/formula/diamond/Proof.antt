@@ -44,11 +44,11 @@ slice-read-known c = search needs
 
 stepped-requires : tie.Need-stepped-requires
 stepped-requires c κs =
-    let start = c .before .before .before .before .before .before .before .before .before in
+    let start = c .before .before .before .before .before .before .before in
     let a = start .args in
     let R = start .pre .0 in
-    let row = c .before .before .before .before .before .row-of .ensures in (
-      serves-row (a .shape .n) (a .shape .m) _ (a .work .now) (R .serves) (row .1),
+    let row = c .before .before .before .row-of .ensures in (
+      serves-row (a .n) (a .m) _ (a .work .now) (R .serves) (row .1),
       ((R .serves .no-bit-above _, start .pre .1 .1), rw (row .0) (R .gave (a .at) (omega (arith, start .pre .1 .0 .0)) (start .pre .1 .0 .1))),
     )
 
@@ -65,17 +65,17 @@ mul-work-2 : tie.Need-mul-work-2
 mul-work-2 c = search needs
 
 slice-write-work-2 : tie.Need-slice-write-work-2
-slice-write-work-2 c = let start = c .before .before .before .before .before .before .before .before .before .before in simp length-set (omega (arith, start .pre .0 .size, start .pre .1 .0 .0))
+slice-write-work-2 c = let start = c .before .before .before .before .before .before .before .before in simp length-set (omega (arith, start .pre .0 .size, start .pre .1 .0 .0))
 
 same-length : tie.Need-same-length
 same-length c = search needs
 
 returns : tie.Need-returns
 returns c =
-    let start = c .before .before .before .before .before .before .before .before .before .before in
+    let start = c .before .before .before .before .before .before .before .before in
     let a = start .args in
-    let gave = rw (c .before .before .before .before .before .before .row-of .ensures .0) at (c .stepped .ensures) in
-    (gave, remembers-more (a .shape .n) (a .shape .m) (a .sheet .now) (a .work .now) (start .pre .0) (a .at) (a .f) (c .stepped .result) (omega (arith, start .pre .1 .0 .0)) (start .pre .1 .1) (word-small (a .shape .n) (c .stepped .result) _ (c .stepped .ensures)) gave)
+    let gave = rw (c .before .before .before .before .row-of .ensures .0) at (c .stepped .ensures) in
+    (gave, remembers-more (a .n) (a .m) (a .sheet .now) (a .work .now) (start .pre .0) (a .at) (a .f) (c .stepped .result) (omega (arith, start .pre .1 .0 .0)) (start .pre .1 .1) (word-small (a .n) (c .stepped .result) _ (c .stepped .ensures)) gave)
 
 pub diamond-spec : {M : Type 1} → statement M
 diamond-spec =

@@ -27,12 +27,12 @@ sub-diamond c = let start = c .before .before .before .before .before .before in
 diamond-requires-2 : tie.Need-diamond-requires-2
 diamond-requires-2 c κs =
     let start = c .before .before .before .before .before .before in
-    (start .pre .0, (start .pre .1 .0, omega (arith, c .before .all .ensures .0 (start .pre .0 .serves .states-few), pow-pos (start .args .shape .n))))
+    (start .pre .0, (start .pre .1 .0, omega (arith, c .before .all .ensures .0 (start .pre .0 .serves .states-few), pow-pos (start .args .n))))
 
 sub-result : tie.Need-sub-result
 sub-result c =
     let start = c .before .before .before .before .before .before .before .before .before in
-    omega (arith, c .before .before .before .before .all .ensures .0 (start .pre .0 .serves .states-few), word-small (start .args .shape .n) (c .before .before .diamond2 .result) _ (c .before .before .diamond2 .ensures .0))
+    omega (arith, c .before .before .before .before .all .ensures .0 (start .pre .0 .serves .states-few), word-small (start .args .n) (c .before .before .diamond2 .result) _ (c .before .before .diamond2 .ensures .0))
 
 same-length-2 : tie.Need-same-length-2
 same-length-2 c = search needs
