@@ -17,7 +17,7 @@ use Rattle.words.proofs.Words.{word-lt}
 use Rattle.evaluate.specs.Evaluating.{rowOf, stepWord, boxWord, tableWord, leafWord, joinedWord, modalWord, readAt, NodesIn, WasRead, formulaOf}
 use Rattle.evaluate.proofs.Operands.{formula, first-was, some-left, operands-were, is-leaf, is-two, is-one, first-of-two, operand-was}
 
-module _ (into : List ℕ) (n m set : ℕ) where
+module _ (into : List ℕ) (n set : ℕ) where
   abbrev word : Formula → ℕ
   word f = tableWord into n f set
 
@@ -128,7 +128,7 @@ module _ (b : List ℕ) (m : ℕ) where
       leaf-next = ap packed here ∙ rw leaf (sym (on 1 (omega arith)))
 
       pub leaf-value : (into : List ℕ) (n set : ℕ) → tableWord into n (formulaOf (readAt b m next)) set ≡ leafWord n (getD b (next % 512) 0) set
-      leaf-value into n set = ap (value into n m set) here ∙ rw leaf (leaf-word into n m set node)
+      leaf-value into n set = ap (value into n set) here ∙ rw leaf (leaf-word into n set node)
 
     -- 3 and 4
     module _ (above : 3 ≤ getD b (next % 512) 0) (known : getD b (next % 512) 0 < 5) where
@@ -167,12 +167,12 @@ module _ (b : List ℕ) (m : ℕ) where
 
       pub two-value : (into : List ℕ) (n set : ℕ) → tableWord into n (formulaOf (readAt b m next)) set
           ≡ joinedWord (getD b (next % 512) 0) (tableWord into n (formulaOf first) set) (tableWord into n (formulaOf second) set)
-      two-value into n set = ap (value into n m set) here ∙ rw (two, ← first-is) (go first refl (first-read .1) (second-read .1))
+      two-value into n set = ap (value into n set) here ∙ rw (two, ← first-is) (go first refl (first-read .1) (second-read .1))
         where
           go : (u : Parsed) → first ≡ u → WasRead u → WasRead (readAt b m (packed u))
-              → value into n m set (onParsed u (λ f between some. onParsed (parse some b m between some) (λ g after rest. parsed (twoOf node f g) after rest)))
-              ≡ joinedWord node (value into n m set u) (value into n m set (readAt b m (packed u)))
-          go (parsed f between some) e w v = rw (second-is f between some e) (last-value into n m set (parse some b m between some) node f (rw (second-is f between some e) at v))
+              → value into n set (onParsed u (λ f between some. onParsed (parse some b m between some) (λ g after rest. parsed (twoOf node f g) after rest)))
+              ≡ joinedWord node (value into n set u) (value into n set (readAt b m (packed u)))
+          go (parsed f between some) e w v = rw (second-is f between some e) (last-value into n set (parse some b m between some) node f (rw (second-is f between some e) at v))
           go (wrong r) e w v = absurd w
 
     -- 5 and 6
@@ -194,4 +194,4 @@ module _ (b : List ℕ) (m : ℕ) where
 
       pub modal-value : (into : List ℕ) (n set : ℕ) → tableWord into n (formulaOf (readAt b m next)) set
           ≡ modalWord into n (getD b (next % 512) 0) (getD b (next % 512 + 1) 0) (tableWord into n (formulaOf operand) set)
-      modal-value into n set = ap (value into n m set) here ∙ rw (one, ← operand-is) (one-value into n m set operand node (getD b (at + 1) 0) (operand-read .1))
+      modal-value into n set = ap (value into n set) here ∙ rw (one, ← operand-is) (one-value into n set operand node (getD b (at + 1) 0) (operand-read .1))

@@ -55,5 +55,5 @@ module _ (n m : ℕ) (old new : List ℕ) (same : SameRows n m old new) where
   word-same bottom h set small = refl
   word-same (and f g) h set small = rw (word-same f (h .0) set small, word-same g (h .1) set small)
   word-same (or f g) h set small = rw (word-same f (h .0) set small, word-same g (h .1) set small)
-  word-same (diamond l f) h set small = rw (word-same f (h .1) set small) (step-same (rowOf l) _ (label-row m l (h .0)) (word-below old n m set small f))
+  word-same (diamond l f) h set small = rw (word-same f (h .1) set small) (step-same (rowOf l) _ (label-row m l (h .0)) (word-below old n set small f))
   word-same (box l f) h set small = rw (word-same f (h .1) set small) (box-same (rowOf l) _ (label-row m l (h .0)))

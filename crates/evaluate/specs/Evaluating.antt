@@ -73,7 +73,7 @@ Kept n m sheet old new = SameRows n m old new × Remembers n m sheet new
 abbrev pub readAt : List ℕ → ℕ → ℕ → Parsed
 readAt sheet m next = parse (next / 512) sheet m (next % 512) (next / 512)
 
--- at most two bytes a node, so many nodes stand before place 510
+-- the nodes, of at most two bytes each, end by place 510, so that every place is below 512
 abbrev pub NodesIn : ℕ → Type 0
 NodesIn next = next % 512 + 2 * (next / 512) ≤ 510
 

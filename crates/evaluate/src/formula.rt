@@ -90,8 +90,8 @@ fn joined_word(node: u8, v: u64, w: u64) -> u64
     words::union(v, w)
 }
 
-// The word of the formula at a place, with set for the variable: it was read there, so no byte is judged again. The place and 512 times the nodes
-// still unread are one number, as the reader has it, and end at what follows the formula.
+// The word of the formula at a place, with set for the variable: it was read there, so no byte is judged again. The place, with 512 times the nodes
+// still unread, is one number, as the reader has it; it goes on to what follows the formula.
 pub fn eval_formula(
     n: usize,
     m: usize,

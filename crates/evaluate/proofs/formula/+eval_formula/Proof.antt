@@ -56,7 +56,7 @@ pub +eval-formula-spec : {M : Type 1} → statement M
     (λ c.
     let s = c .before .before .before .before .before in
     let a = s .args in
-    some-node (a .sheet .now) (a .m) (a .next .now) (s .pre .1 .1 .0))
+    omega (arith, some-node (a .sheet .now) (a .m) (a .next .now) (s .pre .1 .1 .0)))
     (λ c. search needs)
     (λ c κs. c .before .before .before .before .before .pre .1 .0 .serves .states-few)
     (λ c.
@@ -68,7 +68,7 @@ pub +eval-formula-spec : {M : Type 1} → statement M
     (λ c.
     let s = c .before .before .before .before .before .before in
     let a = s .args in
-    some-node (a .sheet .now) (a .m) (a .next .now) (s .pre .1 .1 .0))
+    omega (arith, some-node (a .sheet .now) (a .m) (a .next .now) (s .pre .1 .1 .0)))
     (λ c. search needs)
     (λ c κs.
     let s = c .before .before .before .before .before .before .before .before in
@@ -103,7 +103,7 @@ pub +eval-formula-spec : {M : Type 1} → statement M
     (λ c.
     let s = c .before .before .before .before .before .before in
     let a = s .args in
-    some-node (a .sheet .now) (a .m) (a .next .now) (s .pre .1 .1 .0))
+    omega (arith, some-node (a .sheet .now) (a .m) (a .next .now) (s .pre .1 .1 .0)))
     (λ c. search needs)
     (λ c κs.
     let s = c .before .before .before .before .before .before .before .before in
@@ -115,7 +115,7 @@ pub +eval-formula-spec : {M : Type 1} → statement M
     let a = s .args in
     let f = c .before .before .before .eval-formula3 in
     let above = c .before .before .before .before .before .before .if2 .left in
-    (f .ensures .1 .1 .1, ((action-inside (a .sheet .now) (a .m) (a .next .now % 512) (a .next .now / 512) (s .pre .1 .1 .0 .1) above, action-known (a .sheet .now) (a .m) (a .next .now % 512) (a .next .now / 512) (s .pre .1 .1 .0 .1) above), rw (f .ensures .0) (word-below (a .work .now) (a .n) (a .m) (a .set) (s .pre .1 .1 .1) _))))
+    (f .ensures .1 .1 .1, ((action-inside (a .sheet .now) (a .m) (a .next .now % 512) (a .next .now / 512) (s .pre .1 .1 .0 .1) above, action-known (a .sheet .now) (a .m) (a .next .now % 512) (a .next .now / 512) (s .pre .1 .1 .0 .1) above), rw (f .ensures .0) (word-below (a .work .now) (a .n) (a .set) (s .pre .1 .1 .1) _))))
     (λ c. search needs)
     (λ c.
     let s = c .before .before .before .before .before .before .before .before .before .before .before .before .before .before .before in
@@ -124,7 +124,7 @@ pub +eval-formula-spec : {M : Type 1} → statement M
     let w = c .before .before .modal-word in
     let above = c .before .before .before .before .before .before .before .before .before .if2 .left in
     let at : ℕ = a .next .now % 512 in
-    let small : f .result < 2 ^ a .n = rw (f .ensures .0) (word-below (a .work .now) (a .n) (a .m) (a .set) (s .pre .1 .1 .1) _) in
+    let small : f .result < 2 ^ a .n = rw (f .ensures .0) (word-below (a .work .now) (a .n) (a .set) (s .pre .1 .1 .1) _) in
     let same = modal-same (a .n) (a .m) (a .work .now) (f .last .1 .1 .0) (f .ensures .1 .1 .0) (getD (a .sheet .now) at 0) (getD (a .sheet .now) (at + 1) 0) (f .result) (s .pre .1 .0 .serves .actions-few) (action-known (a .sheet .now) (a .m) (a .next .now % 512) (a .next .now / 512) (s .pre .1 .1 .0 .1) above) small in (
       rw (w .ensures .0 ∙ same, f .ensures .0) (sym (modal-value (a .sheet .now) (a .m) (a .next .now) (s .pre .1 .1 .0) above (a .work .now) (a .n) (a .set))),
       (f .ensures .1 .0 ∙ sym (modal-next (a .sheet .now) (a .m) (a .next .now) (s .pre .1 .1 .0) above), (λ e l. w .ensures .1 .0 e l ∙ f .ensures .1 .1 .0 e l, w .ensures .1 .1)),
