@@ -101,7 +101,7 @@ form-packable name f r few =
     (λ e. packable-as (refuses-is e) (fits (omega arith) (omega arith) (omega (arith, before-within f, bytes-few f)) (omega arith)))
     (λ e. packable-as (refuses-is e) (lent-packable 17 (omega arith) (omega arith)))
     (λ e. packable-as (refuses-is e) (fits (omega arith) (omega arith) (omega arith) (omega arith)))
-    (λ h e. no-bytes (sym e))
+    (λ v h e. no-bytes (sym e))
 
 pub short-form-packable : (chart bytes : List ℕ) (name : ℕ) (old new : List ℕ) (r : Refusal) → ShortFormPromise chart bytes name old new (Lent.Refused r) → Packable r
 short-form-packable chart bytes name old new r p = ⊎-elim (by-chart (readChart chart) refl) (λ e. packable-as e (lent-packable 14 (omega arith) (omega arith))) (refused-by _ old new r p)

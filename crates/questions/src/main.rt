@@ -178,7 +178,7 @@ fn show_deep_form(l: &[u8], bytes: &mut [u8], length: usize, name: u64) {
 
 fn deep_forms(l: &[u8]) {
     say(
-        b"short forms of 197 and 198 nodes with name 0; of 194 and 195 with name 2; of 198 with name 4\n",
+        b"short forms of 197 and 198 nodes with name 0; of 194 and 195 with names 2 and 3; of 198 with name 4\n",
     );
     let mut most = deep(197);
     show_deep_form(l, &mut most, 396, 0);
@@ -188,6 +188,8 @@ fn deep_forms(l: &[u8]) {
     show_deep_form(l, &mut path, 390, 2);
     let mut longer = deep(195);
     show_deep_form(l, &mut longer, 392, 2);
+    show_deep_form(l, &mut path, 390, 3);
+    show_deep_form(l, &mut longer, 392, 3);
     let mut unnamed = deep(198);
     show_deep_form(l, &mut unnamed, 398, 4);
 }
@@ -220,6 +222,16 @@ fn small_forms(l: &[u8]) {
     show_cells(&short, 13);
 }
 
+// T-05's board: a resting state does not come to F.
+fn eventually_false(l: &[u8]) {
+    let mut buffer = [7u8; 12];
+    say(b"L, eventually false: the old form; the new, its bytes, and what satisfies it\n");
+    show_property(l, b"\x01\x01\x04\x04\x02\x06\xff\x00");
+    show_form(l, b"\x01\x00\x01\x02", 3, &mut buffer);
+    show_cells(&buffer, 12);
+    show_property(l, &buffer);
+}
+
 fn main() {
     let e =
         b"\x06\x01\x02\x03\x04\x05\x06\x03\x0a\x14\x1e\x07\x00\x00\x00\x02\x01\x00\x03\x01\x00\x04\x02\x01\x05\x02\x02\x05\x03\x01\x05\x04\x02\x05";
@@ -229,4 +241,5 @@ fn main() {
     all_simulations(e, l);
     deep_forms(l);
     small_forms(l);
+    eventually_false(l);
 }

@@ -9,7 +9,7 @@ use borrow.Author.Tests.{eqb-true, eq-eqb}
 use Rattle.settle.specs.Test.{some, each}
 use Rattle.settle.specs.Finite.{below}
 use Rattle.settle.specs.Chain.{Inside, empty, full, chain, Settled}
-use Rattle.settle.proofs.Test.{never, stable, both-i, both-e, either-l, either-r, either-e, some-i, some-e, each-i, each-e, each-n}
+use Rattle.settle.proofs.Test.{never, stable, both-i, both-e, both-n, either-l, either-r, either-e, some-i, some-e, each-i, each-e, each-n}
 use Rattle.settle.proofs.Finite.{below-i}
 use Rattle.chart.specs.Chart.{Step, Chart, states, actions}
 use Rattle.chart.specs.Layout.{StepIn}
@@ -52,19 +52,19 @@ module _ (c : Chart) (steps-in : (t : Step) → Mem t (c .steps) → StepIn (sta
     each-is : everyLabel (actions c) (c .steps) every P s ≡ each (λ t. eqb (t .source) s) (λ t. P (t .target)) (c .steps)
     each-is = every-every (actions c) (c .steps) P s (λ t i. steps-in t i .action-in)
 
-    diamond-i : (t : Step) → Mem t (c .steps) → t .source ≡ s → So (P (t .target)) → So (someLabel (actions c) (c .steps) every P s)
+    pub diamond-i : (t : Step) → Mem t (c .steps) → t .source ≡ s → So (P (t .target)) → So (someLabel (actions c) (c .steps) every P s)
     diamond-i t i e h = some-is ∙ some-i _ _ i (eq-eqb _ _ e) h
 
     diamond-e : So (someLabel (actions c) (c .steps) every P s) → (t : Step) × Mem t (c .steps) × (t .source ≡ s) × So (P (t .target))
     diamond-e h = let r = some-e _ _ _ (sym some-is ∙ h) in (r .0, r .1, eqb-true _ _ (r .2), r .3)
 
-    box-i : ((t : Step) → Mem t (c .steps) → t .source ≡ s → So (P (t .target))) → So (everyLabel (actions c) (c .steps) every P s)
+    pub box-i : ((t : Step) → Mem t (c .steps) → t .source ≡ s → So (P (t .target))) → So (everyLabel (actions c) (c .steps) every P s)
     box-i f = each-is ∙ each-i _ _ _ (λ t i e. f t i (eqb-true _ _ e))
 
-    box-e : So (everyLabel (actions c) (c .steps) every P s) → (t : Step) → Mem t (c .steps) → t .source ≡ s → So (P (t .target))
+    pub box-e : So (everyLabel (actions c) (c .steps) every P s) → (t : Step) → Mem t (c .steps) → t .source ≡ s → So (P (t .target))
     box-e h t i e = each-e _ _ (sym each-is ∙ h) i (eq-eqb _ _ e)
 
-    box-n : (So (everyLabel (actions c) (c .steps) every P s) → ⊥) → (t : Step) × Mem t (c .steps) × (t .source ≡ s) × (So (P (t .target)) → ⊥)
+    pub box-n : (So (everyLabel (actions c) (c .steps) every P s) → ⊥) → (t : Step) × Mem t (c .steps) × (t .source ≡ s) × (So (P (t .target)) → ⊥)
     box-n f = let r = each-n _ _ _ (λ h. f (each-is ∙ h)) in (r .0, r .1, eqb-true _ _ (r .2), r .3)
 
   -- ---- a sheet's solution is the last of its rounds
@@ -138,31 +138,36 @@ module _ (c : Chart) (steps-in : (t : Step) → Mem t (c .steps) → StepIn (sta
         lasts at goes all zero j = refl
         lasts at goes all (suc k) j = both-i (given _ (at j) (all j)) (elim (goes j) [ inl t ↦ either-r _ (diamond-i _ (at j) (t .0) (t .1) (t .2) (subst (λ u. So (chain (applied c (safePath f)) full k u)) (sym (t .3)) (lasts at goes all k (suc j)))) | inr p ↦ either-l _ (box-i _ (at j) (λ t i e. absurd (p .0 t i e))) ])
 
-    -- F eventually, in the house form: every run comes to F or is stuck
-    pub eventually-means : (s : ℕ) → s < states c → Satisfies c (kindWritten 3) (eventually f) s ↔ ((at : ℕ → ℕ) → Run (c .steps) s at → (k : ℕ) × (F (at k) ⊎ Stuck (c .steps) (at k)))
+    -- where eventually F is not satisfied, some run never comes to F
+    pub missed : (s : ℕ) → s < states c → (Satisfies c (kindWritten 3) (eventually f) s → ⊥) → (at : ℕ → ℕ) × Run (c .steps) s at × ((k : ℕ) → F (at k) → ⊥)
+    unfolding holds chain empty
+    missed s h not =
+        let w = run-through (c .steps) (λ u. (u < states c) × (So (T u) → ⊥)) (λ u p. next u (p .0) (p .1)) s (h, λ t. not (last-round (kindWritten 3) (eventually f) s h .0 t)) in
+        (w .0, w .1, λ k t. w .2 k .1 (here _ (w .2 k .0) (either-l _ (given T _ t))))
+      where
+        T : ℕ → Bool
+        T = applications c (kindWritten 3) (eventually f) (settles (kindWritten 3) (eventually f))
+
+        here : (u : ℕ) → u < states c → So (applied c (eventually f) T u) → So (T u)
+        here u h t = settled (kindWritten 3) (eventually f) u (below-i _ u h) ∙ t
+
+        next : (u : ℕ) → u < states c → (So (T u) → ⊥) → (v : ℕ) × ((v < states c) × (So (T v) → ⊥)) × Goes (c .steps) u v
+        next u h not = elim (both-n _ _ (λ b. not (here u h (either-r _ b)))) [ inl none ↦ (u, (h, not), inr (λ t i e. none (diamond-i _ u t i e refl), refl)) | inr some ↦ let d = box-n T u some in (d .0 .target, (steps-in _ (d .1) .target-in, d .3), inl (d .0, d .1, d .2, refl)) ]
+
+    -- F eventually: every run comes to F; one that is stuck where F has not come does not
+    pub eventually-means : (s : ℕ) → s < states c → Satisfies c (kindWritten 3) (eventually f) s ↔ ((at : ℕ → ℕ) → Run (c .steps) s at → (k : ℕ) × F (at k))
     unfolding holds chain empty
     eventually-means s h = (
-      λ r at run. comes at (run .goes) rounds 0 (subst (λ u. So (T u)) (sym (run .starts)) (last-round (kindWritten 3) (eventually f) s h .1 r)),
+      λ r at run. comes at (run .goes) rounds 0 (subst (λ u. So (applications c (kindWritten 3) (eventually f) rounds u)) (sym (run .starts)) (last-round (kindWritten 3) (eventually f) s h .1 r)),
       λ all. last-round (kindWritten 3) (eventually f) s h .0 (stable _ (λ not.
-          let w = run-through (c .steps) (λ u. (u < states c) × (So (T u) → ⊥)) (λ u p. let n = next u (p .0) (p .1) in (n .0, n .1, inl (n .2))) s (h, not) in
+          let w = missed s h (λ r. not (last-round (kindWritten 3) (eventually f) s h .1 r)) in
           let r = all (w .0) (w .1) in
-          let p = w .2 (r .0) in
-          let n = next (w .0 (r .0)) (p .0) (p .1) in
-          ⊎-elim (λ t. p .1 (here _ (p .0) (either-l _ (given T _ t)))) (λ stuck. stuck (n .2 .0) (n .2 .1) (n .2 .2)) (r .1))),
+          w .2 (r .0) (r .1))),
     )
       where
         rounds : ℕ
         rounds = settles (kindWritten 3) (eventually f)
 
-        T : ℕ → Bool
-        T = chain (applied c (eventually f)) empty rounds
-
-        here : (u : ℕ) → u < states c → So (applied c (eventually f) T u) → So (T u)
-        here u h t = settled (kindWritten 3) (eventually f) u (below-i _ u h) ∙ t
-
-        comes : (at : ℕ → ℕ) → ((k : ℕ) → Goes (c .steps) (at k) (at (suc k))) → (k j : ℕ) → So (chain (applied c (eventually f)) empty k (at j)) → (i : ℕ) × (F (at i) ⊎ Stuck (c .steps) (at i))
+        comes : (at : ℕ → ℕ) → ((k : ℕ) → Goes (c .steps) (at k) (at (suc k))) → (k j : ℕ) → So (chain (applied c (eventually f)) empty k (at j)) → (i : ℕ) × F (at i)
         comes at goes zero j t = never t
-        comes at goes (suc k) j t = elim (either-e _ _ t) [ inl p ↦ (j, inl (known _ (at j) p)) | inr b ↦ elim (goes j) [ inl m ↦ comes at goes k (suc j) (subst (λ u. So (chain (applied c (eventually f)) empty k u)) (m .3) (box-e _ (at j) b (m .0) (m .1) (m .2))) | inr p ↦ (j, inr (p .0)) ] ]
-
-        next : (u : ℕ) → u < states c → (So (T u) → ⊥) → (v : ℕ) × ((v < states c) × (So (T v) → ⊥)) × Moves (c .steps) u v
-        next u h not = let d = box-n T u (λ b. not (here u h (either-r _ b))) in (d .0 .target, (steps-in _ (d .1) .target-in, d .3), (d .0, d .1, d .2, refl))
+        comes at goes (suc k) j t = elim (either-e _ _ t) [ inl p ↦ (j, known _ (at j) p) | inr b ↦ let e = both-e _ _ b in elim (goes j) [ inl m ↦ comes at goes k (suc j) (subst (λ u. So (chain (applied c (eventually f)) empty k u)) (m .3) (box-e _ (at j) (e .1) (m .0) (m .1) (m .2))) | inr p ↦ let d = diamond-e _ (at j) (e .0) in absurd (p .0 (d .0) (d .1) (d .2)) ] ]

@@ -35,16 +35,16 @@ module _ (name : ℕ) (f : Formula) where
 
   -- what holds in each case holds of the form
   pub form-cases : (P : Form → Type 0) → P (wrong (sheetRefusal 16 (3 + beforeVariable f))) → P (wrong (lentRefusal 17)) → P (wrong (sheetRefusal 10 2))
-      → (nodes (shortForm name f) ≤ 200 → P (form (kindWritten name) (shortForm name f))) → P (formOf name f)
+      → (variableFree f ≡ true → nodes (shortForm name f) ≤ 200 → P (form (kindWritten name) (shortForm name f))) → P (formOf name f)
   unfolding formOf
-  form-cases P bound unnamed large made = go (variableFree f) (ltb 3 name) (ltb 200 (nodes (shortForm name f))) refl
+  form-cases P bound unnamed large made = go (variableFree f) (ltb 3 name) (ltb 200 (nodes (shortForm name f))) refl refl
     where
-      go : (x y z : Bool) → ltb 200 (nodes (shortForm name f)) ≡ z
+      go : (x y z : Bool) → variableFree f ≡ x → ltb 200 (nodes (shortForm name f)) ≡ z
           → P (pick x (pick y (wrong (lentRefusal 17)) (pick z (wrong (sheetRefusal 10 2)) (form (kindWritten name) (shortForm name f)))) (wrong (sheetRefusal 16 (3 + beforeVariable f))))
-      go false y z e = bound
-      go true true z e = unnamed
-      go true false true e = large
-      go true false false e = made (ltb-false _ _ e)
+      go false y z v e = bound
+      go true true z v e = unnamed
+      go true false true v e = large
+      go true false false v e = made v (ltb-false _ _ e)
 
 -- ---- determined
 

@@ -1,6 +1,7 @@
 -- A short form that was written is a sheet: the reader accepts it, with the table's kind and formula. A refusal leaves every byte.
 use Prim.Native.Nat.{ℕ, _≤_}
 use mathlib.Core.Path.{_≡_, refl, sym, _∙_}
+use mathlib.Core.Bool.{So}
 use mathlib.Core.List.{List}
 use native.Mathlib.Omega.{arith}
 use lib.Dec.{eqb}
@@ -11,7 +12,7 @@ use Rattle.chart.specs.declared.Shape.{Shape}
 use Rattle.chart.specs.declared.ChartRead.{ChartRead}
 use Rattle.chart.specs.declared.ChartRead.the-variants as Read
 use Rattle.chart.proofs.Accepted as Chart
-use Rattle.sheet.specs.Formula.{Formula, nodes}
+use Rattle.sheet.specs.Formula.{Formula, nodes, variableFree}
 use Rattle.sheet.specs.Layout.{encode, LabelIn, LabelsIn, WellFormed}
 use Rattle.sheet.specs.Reading.{Sheet, sheet, refused, readSheet}
 use Rattle.sheet.proofs.Accepted.{layout-read, layout-written}
@@ -23,10 +24,12 @@ use Rattle.short_form.specs.Promise.{Form, formOf, formOfSheet, formOfCh
 use Rattle.short_form.proofs.Pieces.{in-each}
 use Rattle.short_form.proofs.Promise.{form-cases}
 
--- the sheet that is written is the table's, of at most 200 nodes
-is-table : (name : ℕ) (f : Formula) (bytes : List ℕ) → outcomeOf (formOf name f) ≡ writes bytes
-    → (bytes ≡ encode (kindWritten name) (shortForm name f)) × (nodes (shortForm name f) ≤ 200)
-is-table name f bytes = form-cases name f (λ (w : Form). outcomeOf w ≡ writes bytes → (bytes ≡ encode (kindWritten name) (shortForm name f)) × (nodes (shortForm name f) ≤ 200)) no-bytes no-bytes no-bytes (λ h e. (cc, h))
+-- the sheet that is written is the table's, of at most 200 nodes, and F has no variable
+abbrev IsTable : ℕ → Formula → List ℕ → Type 0
+IsTable name f bytes = (bytes ≡ encode (kindWritten name) (shortForm name f)) × (nodes (shortForm name f) ≤ 200) × So (variableFree f)
+
+is-table : (name : ℕ) (f : Formula) (bytes : List ℕ) → outcomeOf (formOf name f) ≡ writes bytes → IsTable name f bytes
+is-table name f bytes = form-cases name f (λ (w : Form). outcomeOf w ≡ writes bytes → IsTable name f bytes) no-bytes no-bytes no-bytes (λ v h e. (cc, h, v))
 
 -- a refusal leaves every byte
 pub refused-leaves : (chart s : List ℕ) (name : ℕ) (old new : List ℕ) (r : Refusal) → ShortFormPromise chart s name old new (Refused r) → new ≡ old
@@ -36,7 +39,7 @@ refused-leaves chart s name old new r p = leaves _ old new r p
 
 labels-kept : (name m : ℕ) (f : Formula) → LabelsIn m f → LabelsIn m (shortForm name f)
 unfolding LabelsIn LabelIn
-labels-kept name m f h = in-each (LabelsIn m) (eqb name 0) (eqb name 1) (eqb name 2) (h, (tt, tt)) (h, (tt, tt)) (h, ((tt, tt), (tt, tt))) (h, (tt, tt))
+labels-kept name m f h = in-each (LabelsIn m) (eqb name 0) (eqb name 1) (eqb name 2) (h, (tt, tt)) (h, (tt, tt)) (h, ((tt, tt), (tt, tt))) (h, ((tt, tt), (tt, tt)))
 
 kind-small : (name : ℕ) → kindWritten name ≤ 2
 kind-small name = in-each (λ k. k ≤ 2) (eqb name 0) (eqb name 1) (eqb name 2) (omega arith) (omega arith) (omega arith) (omega arith)
@@ -51,6 +54,7 @@ pub record ReadBack (chart s : List ℕ) (name : ℕ) (old new : List ℕ) (size
   pub count : ℕ
   pub formula : Formula
   pub sheet-read : readSheet s (shape .m) ≡ sheet kind count formula
+  pub free : So (variableFree formula)
   pub filled : take size new ≡ encode (kindWritten name) (shortForm name formula)
   pub stays : drop size new ≡ drop size old
   pub read-back : readSheet (take size new) (shape .m) ≡ sheet (kindWritten name) (nodes (shortForm name formula)) (shortForm name formula)
@@ -78,6 +82,7 @@ written-read-back chart s name old new size p = of-chart (readChart chart) refl 
           count = count;
           formula = f;
           sheet-read = e;
+          free = t .2;
           filled = filled;
           stays = done .later-stay;
           read-back = rw filled (layout-written (shape .m) (Chart.accepted chart shape c .actions-few) (kindWritten name) (shortForm name f) well);

@@ -2,18 +2,19 @@
 -- table's formula is the law `form-bytes` of proofs/Pieces.antt.
 use Prim.Native.Nat.{ℕ}
 use mathlib.Core.List.{List, [], _∷_}
-use lib.Dec.{eqb}
-use Rattle.settle.specs.Test.{pick}
+use Rattle.short_form.specs.ShortForm.{byName}
 
 abbrev pub operatorOf : ℕ → ℕ
-operatorOf name = pick (eqb name 0) 3 (pick (eqb name 1) 4 (pick (eqb name 2) 3 4))
+operatorOf name = byName name 3 4 3 4
 
 abbrev pub operandOf : ℕ → List ℕ
 operandOf name =
-    pick (eqb name 0) (6 ∷ 255 ∷ 0 ∷ [])
-    (pick (eqb name 1) (5 ∷ 255 ∷ 0 ∷ [])
-    (pick (eqb name 2) (4 ∷ 6 ∷ 255 ∷ 2 ∷ 5 ∷ 255 ∷ 0 ∷ []) (6 ∷ 255 ∷ 0 ∷ [])))
+    byName name
+    (6 ∷ 255 ∷ 0 ∷ [])
+    (5 ∷ 255 ∷ 0 ∷ [])
+    (4 ∷ 6 ∷ 255 ∷ 2 ∷ 5 ∷ 255 ∷ 0 ∷ [])
+    (3 ∷ 5 ∷ 255 ∷ 1 ∷ 6 ∷ 255 ∷ 0 ∷ [])
 
 -- how many nodes the form has beyond those of F
 abbrev pub moreNodes : ℕ → ℕ
-moreNodes name = pick (eqb name 0) 3 (pick (eqb name 1) 3 (pick (eqb name 2) 6 3))
+moreNodes name = byName name 3 3 6 6

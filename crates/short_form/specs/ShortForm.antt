@@ -1,10 +1,10 @@
--- Document 01's four short forms: the kind and the formula of the sheet that is written, for F without variable and a name.
+-- The four short forms of document 01 and T-05: the kind and the formula of the sheet that is written, for F without variable and a name.
 use Prim.Native.Nat.{ℕ}
 use lib.Dec.{eqb}
 use Rattle.settle.specs.Test.{pick}
-use Rattle.sheet.specs.Formula.{every, Formula, variable, bottom, and, or, diamond, box}
+use Rattle.sheet.specs.Formula.{every, Formula, variable, top, bottom, and, or, diamond, box}
 
--- Names 0 to 2 follow 001; name 3 is the house form
+-- all four are those of 001
 abbrev pub always : Formula → Formula
 always f = and f (box every variable)
 
@@ -15,11 +15,14 @@ abbrev pub safePath : Formula → Formula
 safePath f = and f (or (box every bottom) (diamond every variable))
 
 abbrev pub eventually : Formula → Formula
-eventually f = or f (box every variable)
+eventually f = or f (and (diamond every top) (box every variable))
 
--- by name: 0 always, 1 possible, 2 safe path, 3 eventually
+-- a row of the table by name: 0 always, 1 possible, 2 safe path, 3 eventually
+abbrev pub byName : {A : Type 0} → ℕ → A → A → A → A → A
+byName name a b c d = pick (eqb name 0) a (pick (eqb name 1) b (pick (eqb name 2) c d))
+
 abbrev pub shortForm : ℕ → Formula → Formula
-shortForm name f = pick (eqb name 0) (always f) (pick (eqb name 1) (possible f) (pick (eqb name 2) (safePath f) (eventually f)))
+shortForm name f = byName name (always f) (possible f) (safePath f) (eventually f)
 
 abbrev pub kindWritten : ℕ → ℕ
-kindWritten name = pick (eqb name 0) 0 (pick (eqb name 1) 1 (pick (eqb name 2) 0 1))
+kindWritten name = byName name 0 1 0 1

@@ -14,7 +14,7 @@ ghost use Rattle.sheet.specs.Layout.{encode};
 ghost use Rattle.sheet.specs.Reading.{readSheet};
 ghost use Rattle.text.specs.Text.{placed, PutPromise};
 ghost use Rattle.lent.specs.Lent.{LentPromise};
-ghost use Rattle.short_form.specs.ShortForm.{kindWritten};
+ghost use Rattle.short_form.specs.ShortForm.{byName, kindWritten};
 ghost use Rattle.short_form.specs.Promise.{beforeVariable, formOf, formOfSheet, outcomeOf, ShortFormPromise};
 ghost use Rattle.short_form.specs.Pieces.{operatorOf, operandOf, moreNodes};
 
@@ -55,56 +55,48 @@ fn first_variable(sheet: &[u8]) -> usize
     at
 }
 
+// The table's row of a name: always, possible, safe path, eventually.
+fn row(name: u64, always: u8, possible: u8, path: u8, eventually: u8) -> u8
+    ensures { λ r. ⌜ r ≡ byName name always possible path eventually ⌝ }
+{
+    if name == 0 {
+        return always;
+    }
+    if name == 1 {
+        return possible;
+    }
+    if name == 2 {
+        return path;
+    }
+    eventually
+}
+
 // The kind that the table has for a name.
 fn kind_written(name: u64) -> u8
     ensures { λ r. ⌜ r ≡ kindWritten name ⌝ }
 {
-    if name == 0 {
-        return 0;
-    }
-    if name == 1 {
-        return 1;
-    }
-    if name == 2 {
-        return 0;
-    }
-    1
+    row(name, 0, 1, 0, 1)
 }
 
 // The and or the or that the form begins with.
 fn operator(name: u64) -> u8
     ensures { λ r. ⌜ r ≡ operatorOf name ⌝ }
 {
-    if name == 0 {
-        return 3;
-    }
-    if name == 1 {
-        return 4;
-    }
-    if name == 2 {
-        return 3;
-    }
-    4
+    row(name, 3, 4, 3, 4)
 }
 
 // How many nodes the form has beside those of F.
 fn more_nodes(name: u64) -> usize
     ensures { λ r. ⌜ r ≡ moreNodes name ⌝ }
 {
-    if name == 2 {
-        return 6;
-    }
-    3
+    row(name, 3, 3, 6, 6) as usize
 }
 
 // How many bytes follow F.
 fn operand_size(name: u64) -> usize
     ensures { λ r. ⌜ r ≡ length (operandOf name) ⌝ }
 {
-    if name == 2 {
-        return 7;
-    }
-    3
+    row(name, 3, 3, 7, 7) as usize
 }
 
 // The second operand of the form, after F.
@@ -120,7 +112,7 @@ fn put_operand(buffer: &mut [u8], at: usize, name: u64) -> usize
     if name == 2 {
         return text::put_bytes(buffer, at, &[4, 6, 255, 2, 5, 255, 0]);
     }
-    text::put_bytes(buffer, at, &[6, 255, 0])
+    text::put_bytes(buffer, at, &[3, 5, 255, 1, 6, 255, 0])
 }
 
 // The form's sheet, which has room.

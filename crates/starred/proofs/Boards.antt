@@ -31,7 +31,7 @@ use Rattle.nearness.specs.Relation.{matched, simulationRound, bisimulationRound
 use Rattle.nearness.specs.Mark.{bearsMark}
 use Rattle.nearness.proofs.Bisimulation.{simulates-iff}
 use Rattle.nearness.proofs.Rounds.{near-rounds-le, mark-test}
-use Rattle.starred.specs.Boards.{Board, marks, marksGreatest, simulates, satisfies, InChart, Truth, MarksAre, GreatestRounds, SimulationsAre, SatisfiesAre, Holds, chartE, chartL, chartOne, sheetE, sheetOr, sheetAnd, starred}
+use Rattle.starred.specs.Boards.{Board, marks, marksGreatest, simulates, satisfies, satisfiesForm, InChart, Truth, MarksAre, GreatestRounds, SimulationsAre, SatisfiesAre, Holds, chartE, chartL, chartOne, sheetE, sheetOr, sheetAnd, sheetFalse, starred}
 
 -- ---- the tests
 
@@ -57,25 +57,34 @@ simulatesTest (e ∷ rest) c =
     both (both (ltb (e .0 .0) (states c)) (both (ltb (e .0 .1) (states c)) (same (Simulating (c .steps) simulationRounds (e .0 .0, e .0 .1)) (e .1))))
     (simulatesTest rest c)
 
-satisfiesTest : ℕ → ℕ → ℕ → Chart → Sheet → Bool
-satisfiesTest word number rounds c (sheet kind nodes f) =
+solutionTest : ℕ → Formula → ℕ → ℕ → ℕ → Chart → Bool
+solutionTest kind f word number rounds c =
     both (stops (below (states c)) (applications c kind f) rounds)
     (both (allOf (λ s. same (applications c kind f rounds s) (member word s)) (below (states c)))
     (both (ltb word (2 ^ states c))
     (eqb (count (member word) (below (states c))) number)))
+
+satisfiesTest : ℕ → ℕ → ℕ → Chart → Sheet → Bool
+satisfiesTest word number rounds c (sheet kind nodes f) = solutionTest kind f word number rounds c
 satisfiesTest word number rounds c (refused r) = false
+
+formTest : ℕ → (Formula → Formula) → ℕ → ℕ → ℕ → Chart → Sheet → Bool
+formTest kind form word number rounds c (sheet own nodes f) = solutionTest kind (form f) word number rounds c
+formTest kind form word number rounds c (refused r) = false
 
 boardTest : Board → Chart → Bool
 boardTest (marks bytes expected rounds) c = marksTest expected rounds c
 boardTest (marksGreatest bytes expected rounds) c = marksGreatestTest expected rounds c
 boardTest (simulates bytes expected) c = both (stops (pairs (states c)) (Simulating (c .steps)) simulationRounds) (simulatesTest expected c)
 boardTest (satisfies bytes sheetBytes word number rounds) c = satisfiesTest word number rounds c (readSheet sheetBytes (actions c))
+boardTest (satisfiesForm bytes sheetBytes kind form word number rounds) c = formTest kind form word number rounds c (readSheet sheetBytes (actions c))
 
 chartOf : Board → List ℕ
 chartOf (marks bytes expected rounds) = bytes
 chartOf (marksGreatest bytes expected rounds) = bytes
 chartOf (simulates bytes expected) = bytes
 chartOf (satisfies bytes sheetBytes word number rounds) = bytes
+chartOf (satisfiesForm bytes sheetBytes kind form word number rounds) = bytes
 
 onChart : List ℕ → (Chart → Bool) → ChartRead → Bool
 onChart bytes test (Read.Chart sh) = both (targetsIn (chartIn bytes sh)) (test (chartIn bytes sh))
@@ -85,7 +94,7 @@ good : Board → Bool
 good b = onChart (chartOf b) (boardTest b) (readChart (chartOf b))
 
 all-good : So (allOf good starred)
-unfolding simulationRounds starred chartE chartL chartOne sheetE sheetOr sheetAnd good chartOf onChart targetsIn boardTest marksTest marksGreatestTest simulatesTest satisfiesTest both either implies neg same anyOf allOf some each count below product pairs empty full chain settled stops readChart readActions readTransitions judgeCodes judgeTriples bytesAt stepsAt leaves someStep everyStep someLabel everyLabel holds readSheet readNodes parse nodeAt matched simulationRound bisimulationRound bearsMark
+unfolding simulationRounds starred chartE chartL chartOne sheetE sheetOr sheetAnd sheetFalse good chartOf onChart targetsIn boardTest marksTest marksGreatestTest simulatesTest solutionTest satisfiesTest formTest both either implies neg same anyOf allOf some each count below product pairs empty full chain settled stops readChart readActions readTransitions judgeCodes judgeTriples bytesAt stepsAt leaves someStep everyStep someLabel everyLabel holds readSheet readNodes parse nodeAt matched simulationRound bisimulationRound bearsMark
 all-good = refl
 
 -- ---- a test that is true is what its board says
@@ -124,25 +133,31 @@ module _ (c : Chart) (targets : TargetsBelow (states c) (c .steps)) where
       let i = simulates-iff (states c) (c .steps) targets (e .0 .0) (e .0 .1) (ltb-true _ _ (b .0)) (ltb-true _ _ (d .0)) simulationRounds (stops-e _ _ _ r .0) in
       (truth (e .1) i (same-e _ _ (d .1)), simulates-hold r rest (a .1))
 
-  satisfies-hold : (word number rounds : ℕ) (s : Sheet) → So (satisfiesTest word number rounds c s) → (kind : ℕ) × (f : Formula) × (nodes : ℕ) × (s ≡ sheet kind nodes f) × SatisfiesAre kind f word number rounds c
-  unfolding satisfiesTest
-  satisfies-hold word number rounds (sheet kind nodes f) t =
+  solution-holds : (kind : ℕ) (f : Formula) (word number rounds : ℕ) → So (solutionTest kind f word number rounds c) → SatisfiesAre kind f word number rounds c
+  unfolding solutionTest
+  solution-holds kind f word number rounds t =
       let a = both-e _ _ t in
       let b = both-e _ _ (a .1) in
       let d = both-e _ _ (b .1) in
-      let r = stops-e _ _ rounds (a .0) in (
-        kind,
-        f,
-        nodes,
-        refl,
-        record {
-          bits = λ s h. truth (member word s) (satisfies-iff c targets f kind rounds (r .0) s h) (same-e _ _ (all-e _ (b .0) (below-i _ s h)));
-          no-bit-above = ltb-true _ _ (d .0);
-          number-is = eqb-true _ _ (d .1);
-          rounds-are = r;
-        },
-      )
+      let r = stops-e _ _ rounds (a .0) in
+      record {
+        bits = λ s h. truth (member word s) (satisfies-iff c targets f kind rounds (r .0) s h) (same-e _ _ (all-e _ (b .0) (below-i _ s h)));
+        no-bit-above = ltb-true _ _ (d .0);
+        number-is = eqb-true _ _ (d .1);
+        rounds-are = r;
+      }
+
+  satisfies-hold : (word number rounds : ℕ) (s : Sheet) → So (satisfiesTest word number rounds c s)
+      → (kind : ℕ) × (f : Formula) × (nodes : ℕ) × (s ≡ sheet kind nodes f) × SatisfiesAre kind f word number rounds c
+  unfolding satisfiesTest
+  satisfies-hold word number rounds (sheet kind nodes f) t = (kind, f, nodes, refl, solution-holds kind f word number rounds t)
   satisfies-hold word number rounds (refused r) t = never t
+
+  form-holds : (kind : ℕ) (form : Formula → Formula) (word number rounds : ℕ) (s : Sheet) → So (formTest kind form word number rounds c s)
+      → (own : ℕ) × (f : Formula) × (nodes : ℕ) × (s ≡ sheet own nodes f) × SatisfiesAre kind (form f) word number rounds c
+  unfolding formTest
+  form-holds kind form word number rounds (sheet own nodes f) t = (own, f, nodes, refl, solution-holds kind (form f) word number rounds t)
+  form-holds kind form word number rounds (refused r) t = never t
 
 on-chart : (bytes : List ℕ) (test : Chart → Bool) (Says : Chart → Type 0)
     → ((c : Chart) → TargetsBelow (states c) (c .steps) → So (test c) → Says c)
@@ -161,6 +176,8 @@ good-holds (simulates bytes expected) t =
     on-chart bytes _ _ (λ c w h. let a = both-e _ _ h in simulates-hold c w (a .0) expected (a .1)) (readChart bytes) refl t
 good-holds (satisfies bytes sheetBytes word number rounds) t =
     on-chart bytes _ _ (λ c w. satisfies-hold c w word number rounds (readSheet sheetBytes (actions c))) (readChart bytes) refl t
+good-holds (satisfiesForm bytes sheetBytes kind form word number rounds) t =
+    on-chart bytes _ _ (λ c w. form-holds c w kind form word number rounds (readSheet sheetBytes (actions c))) (readChart bytes) refl t
 
 pub starred-boards-hold : (b : Board) → Mem b starred → Holds b
 starred-boards-hold b m = good-holds b (all-e good all-good m)

@@ -1,4 +1,4 @@
--- Document 01's starred boards: one list of cases, from the boards' own bytes, and what each case says in terms of the definitions.
+-- Document 01's starred boards and that of T-05: one list of cases, from the boards' own bytes, and what each case says in terms of the definitions.
 -- That all of them hold is `starred-boards-hold` of proofs/Boards.antt.
 use Prim.Native.Nat.{ℕ, _+_, _-_, _*_, _^_, _≤_, _<_}
 use mathlib.Core.Path.{_≡_}
@@ -19,6 +19,8 @@ use Rattle.words.specs.Words.{member}
 use Rattle.nearness.specs.Relation.{Near}
 use Rattle.nearness.specs.Bisimulation.{Simulates}
 use Rattle.nearness.specs.Mark.{Mark}
+use Rattle.short_form.specs.ShortForm.{shortForm, kindWritten}
+use Rattle.short_form.specs.Rest.{houseForm}
 
 pub data Board : Type 0 where
   -- a chart's bytes, the marks of all pairs row by row, and the rounds
@@ -29,6 +31,8 @@ pub data Board : Type 0 where
   simulates : List ℕ → List ((ℕ × ℕ) × Bool) → Board
   -- a chart's bytes, a sheet's bytes, the word, the number of states and the rounds
   satisfies : List ℕ → List ℕ → ℕ → ℕ → ℕ → Board
+  -- a chart's bytes, those of a sheet for F, the kind and the form that is made of F, the word, the number of states and the rounds
+  satisfiesForm : List ℕ → List ℕ → ℕ → (Formula → Formula) → ℕ → ℕ → ℕ → Board
 
 -- ---- what a case says
 
@@ -66,6 +70,8 @@ Holds (marksGreatest bytes expected rounds) = InChart bytes (λ c. MarksAre expe
 Holds (simulates bytes expected) = InChart bytes (SimulationsAre expected)
 Holds (satisfies bytes sheetBytes word number rounds) =
     InChart bytes (λ c. (kind : ℕ) × (f : Formula) × (nodes : ℕ) × (readSheet sheetBytes (actions c) ≡ sheet kind nodes f) × SatisfiesAre kind f word number rounds c)
+Holds (satisfiesForm bytes sheetBytes kind form word number rounds) =
+    InChart bytes (λ c. (own : ℕ) × (f : Formula) × (nodes : ℕ) × (readSheet sheetBytes (actions c) ≡ sheet own nodes f) × SatisfiesAre kind (form f) word number rounds c)
 
 -- ---- the cases
 
@@ -108,6 +114,10 @@ sheetOr kind = 1 ∷ kind ∷ 5 ∷ 4 ∷ 6 ∷ 0 ∷ 2 ∷ 5 ∷ 0 ∷ 0 ∷ []
 unfoldable pub sheetAnd : ℕ → List ℕ
 sheetAnd kind = 1 ∷ kind ∷ 5 ∷ 3 ∷ 5 ∷ 0 ∷ 1 ∷ 6 ∷ 0 ∷ 0 ∷ []
 
+-- F is false
+unfoldable pub sheetFalse : List ℕ
+sheetFalse = 1 ∷ 0 ∷ 1 ∷ 2 ∷ []
+
 unfoldable pub starred : List Board
 starred =
     marks chartE
@@ -132,5 +142,8 @@ starred =
     ∷ satisfies chartL (sheetOr 2) 7 3 0
     ∷ satisfies chartL (sheetAnd 2) 1 1 2
     ∷ satisfies chartL (sheetAnd 1) 0 0 0
+    -- eventually false: the old form, and the new
+    ∷ satisfiesForm chartL sheetFalse 1 houseForm 4 1 1
+    ∷ satisfiesForm chartL sheetFalse (kindWritten 3) (shortForm 3) 0 0 0
     ∷ marks chartOne (0 ∷ []) 0
     ∷ []
