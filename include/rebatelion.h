@@ -112,8 +112,10 @@ uint64_t rebatelion_property(const uint8_t *chart, size_t chart_len, const uint8
 /* A property sheet made from a sheet for F, a formula without variable, by one of four short forms.
  *
  * Name: 0 always F, 1 possibly F, 2 a safe path (some way to go on as long as the chart does, with F all along), 3 eventually F.
- * Eventually F is "or F, box 255 X": every way to go on comes to F or comes to rest. A state at rest satisfies it whatever F is,
- * so a run that rests before F counts as one that comes to F.
+ * Eventually F is "or F, and (diamond 255 true), box 255 X": every way to go on comes to F. One that comes to rest before F does
+ * not, and a state at rest satisfies it only where F holds. (It was "or F, box 255 X", by which every state at rest satisfied it; a
+ * sheet that was made so is still read as it stands.)
+ * F may have at most 197 nodes with names 0 and 1, and 194 with names 2 and 3.
  * F's own kind is ignored. The sheet fills the start of the buffer, and *written is its length; a buffer of
  * REBATELION_MAX_SHEET bytes is always long enough. Hand it to rebatelion_property with a chart that has the same actions.
  *

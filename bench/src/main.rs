@@ -114,10 +114,10 @@ fn property<const N: usize>(chart: &[u8], sheet: &[u8], calls: [Solve; N]) -> (u
     (answer.2, times)
 }
 
-/// Name 2, which writes the most.
-fn safe_path(chart: &[u8], sheet: &[u8]) -> [f64; 3] {
+/// Names 2 and 3 write the most.
+fn short_form(chart: &[u8], sheet: &[u8], name: u64) -> [f64; 3] {
     let calls = [archive::short_form, short_form::same_shape, short_form::one_pass];
-    timed(512, calls.map(|call| move |b: &mut [u8]| call(black_box(chart), black_box(sheet), 2, b))).1
+    timed(512, calls.map(|call| move |b: &mut [u8]| call(black_box(chart), black_box(sheet), black_box(name), b))).1
 }
 
 /// The rounds, and the times.
@@ -191,12 +191,14 @@ fn sheets(above: &mut Vec<String>) {
         row(above, &cases::PROPERTY, case, &rounds.to_string(), times);
     }
     let drawn = cases::drawn(64, 32, 1024);
-    for (case, chart, sheet) in [
-        ("E, its sheet, name 2", cases::e(), cases::e_sheet()),
-        ("E, 194 nodes nested, name 2", cases::e(), cases::closed_sheet(194)),
-        ("1,024 triples, 194 nodes nested, name 2", drawn, cases::closed_sheet(194)),
+    for (case, chart, sheet, name) in [
+        ("E, its sheet, name 2", cases::e(), cases::e_sheet(), 2),
+        ("E, its sheet, name 3", cases::e(), cases::e_sheet(), 3),
+        ("E, 194 nodes nested, name 2", cases::e(), cases::closed_sheet(194), 2),
+        ("E, 194 nodes nested, name 3", cases::e(), cases::closed_sheet(194), 3),
+        ("1,024 triples, 194 nodes nested, name 2", drawn, cases::closed_sheet(194), 2),
     ] {
-        row(above, &cases::SHORT_FORM, case, "-", safe_path(&chart, &sheet));
+        row(above, &cases::SHORT_FORM, case, "-", short_form(&chart, &sheet, name));
     }
 }
 

@@ -8,7 +8,7 @@ fn table(name: u64) -> Option<(u8, u8, &'static [u8])> {
         0 => Some((0, 3, &[6, 255, 0])),
         1 => Some((1, 4, &[5, 255, 0])),
         2 => Some((0, 3, &[4, 6, 255, 2, 5, 255, 0])),
-        3 => Some((1, 4, &[6, 255, 0])),
+        3 => Some((1, 4, &[3, 5, 255, 1, 6, 255, 0])),
         _ => None,
     }
 }
@@ -16,7 +16,7 @@ fn table(name: u64) -> Option<(u8, u8, &'static [u8])> {
 /// The sheet of the form, where F has no variable; its length.
 fn write(sheet: &[u8], name: u64, buffer: &mut [u8]) -> Option<u64> {
     let (kind, operator, operand) = table(name)?;
-    let nodes = sheet[2] as usize + if name == 2 { 6 } else { 3 };
+    let nodes = sheet[2] as usize + if name < 2 { 3 } else { 6 };
     if nodes > 200 {
         return None;
     }

@@ -138,6 +138,21 @@ static void property(void) {
     EXPECT_KEPT();
 }
 
+/* eventually false on L: the state at rest satisfied it by the old form, and by the new none does */
+static void eventually(void) {
+    const uint8_t f[] = {1, 0, 1, 2}, old[] = {1, 1, 4, 4, 2, 6, 255, 0};
+    const uint8_t expected[] = {1, 1, 7, 4, 2, 3, 5, 255, 1, 6, 255, 0};
+    EXPECT(rebatelion_property(l, sizeof l, old, sizeof old, &x, &y, &z), 0);
+    EXPECT(x, 4);
+    EXPECT(rebatelion_short_form(l, sizeof l, f, sizeof f, 3, buffer, LENT, &x), 0);
+    EXPECT(x, sizeof expected);
+    EXPECT_BYTES(buffer, expected, sizeof expected);
+    EXPECT(rebatelion_property(l, sizeof l, buffer, sizeof expected, &x, &y, &z), 0);
+    EXPECT(x, 0);
+    EXPECT(y, 0);
+    EXPECT(z, 0);
+}
+
 static void short_form(void) {
     const uint8_t f[] = {1, 2, 1, 1}, variable[] = {1, 2, 1, 0};
     const uint8_t expected[] = {1, 1, 4, 4, 1, 5, 255, 0};
@@ -147,6 +162,7 @@ static void short_form(void) {
     EXPECT(x, sizeof expected);
     EXPECT_BYTES(buffer, expected, sizeof expected);
     EXPECT_BYTES(buffer + sizeof expected, before + sizeof expected, LENT - sizeof expected);
+    eventually();
 
     fill();
     EXPECT_REFUSED(rebatelion_short_form(NULL, 0, f, sizeof f, 1, buffer, LENT, &x), 0, 1, 0, 0);
@@ -392,6 +408,14 @@ static void longest_sheets(void) {
     sheet[3 + 2 * 196] = 1;
     EXPECT(rebatelion_short_form(chart, all, sheet, 3 + 2 * 196 + 1, 0, room, REBATELION_MAX_SHEET, &x), 0);
     EXPECT(x, 400);
+    /* eventually takes an F of 194 nodes, and none of 195 */
+    sheet[2] = 195;
+    sheet[3 + 2 * 194] = 1;
+    EXPECT_REFUSED(rebatelion_short_form(chart, all, sheet, 3 + 2 * 194 + 1, 3, room, REBATELION_MAX_SHEET, &x), 1, 10, 2, 0);
+    sheet[2] = 194;
+    sheet[3 + 2 * 193] = 1;
+    EXPECT(rebatelion_short_form(chart, all, sheet, 3 + 2 * 193 + 1, 3, room, REBATELION_MAX_SHEET, &x), 0);
+    EXPECT(x, 398);
 }
 
 /* one chart of so many states, codes and steps beside another, with other codes, in a buffer of this length */

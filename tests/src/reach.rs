@@ -36,6 +36,14 @@ const ROWS: &[Row] = &[
     ("thousands too long, marks", |o| thousands(o, Question::Marks), 0..=5),
     ("thousands too long, simulation", |o| thousands(o, Question::Simulation), 0..=5),
     ("thousands too long, short form", |o| thousands(o, Question::ShortForm), 0..=5),
+    ("nodes of F, name 0", |o| nodes_of_f(o, 0, o.answers(ShortForm)), 1..=197),
+    ("nodes of F, name 1", |o| nodes_of_f(o, 1, o.answers(ShortForm)), 1..=197),
+    ("nodes of F, name 2", |o| nodes_of_f(o, 2, o.answers(ShortForm)), 1..=194),
+    ("nodes of F, name 3", |o| nodes_of_f(o, 3, o.answers(ShortForm)), 1..=194),
+    ("nodes of F, name 0, refused 10", |o| nodes_of_f(o, 0, o.refuses(10)), 198..=200),
+    ("nodes of F, name 1, refused 10", |o| nodes_of_f(o, 1, o.refuses(10)), 198..=200),
+    ("nodes of F, name 2, refused 10", |o| nodes_of_f(o, 2, o.refuses(10)), 195..=200),
+    ("nodes of F, name 3, refused 10", |o| nodes_of_f(o, 3, o.refuses(10)), 195..=200),
     ("thousands too long, compare", |o| thousands(o, Compare), 0..=5),
     ("rounds of compare, 64 states together", |o| rounds(o, Compare, o.states_together() == 64), 0..=63),
     ("mark of the start states, 64 together", |o| of_64(o, |o| o.left.buffer.part()[0] as usize), 0..=63),
@@ -162,6 +170,11 @@ fn rounds(o: &Outcome, question: Question, wanted: bool) -> Option<u64> {
 
 fn solved(o: &Outcome, kind: u8) -> Option<u64> {
     rounds(o, Question::Property, o.of_longest() && o.nodes() == 200 && o.kind() == Some(kind))
+}
+
+/// Of a short form with this name.
+fn nodes_of_f(o: &Outcome, name: u64, wanted: bool) -> Option<u64> {
+    (o.left.question == ShortForm && o.left.name == name && wanted).then(|| o.nodes() as u64)
 }
 
 fn thousands(o: &Outcome, question: Question) -> Option<u64> {

@@ -2,7 +2,7 @@
 use mathlib.Core.Path.{_≡_, refl, sym, ap, subst, fun-ext, _∙_}
 use mathlib.Core.Bool.{Bool, So}
 use mathlib.Core.List.{List, List·Memᴰ as Mem}
-use mathlib.Core.Logic.{_⊎_, inl, inr, _↔_, ⊎-elim}
+use mathlib.Core.Logic.{inl, inr, _↔_}
 use Prim.Native.Nat.{ℕ, zero, suc, _<_}
 use lib.Dec.{eqb}
 use borrow.Author.Tests.{eqb-true, eq-eqb}
@@ -19,7 +19,7 @@ use Rattle.sheet.specs.Solution.{applied, Satisfies, applications}
 use Rattle.sheet.proofs.Meaning.{some-every, every-every}
 use Rattle.sheet.proofs.Solution.{sheet-rounds, satisfies-iff}
 use Rattle.short_form.specs.ShortForm.{always, possible, safePath, eventually, kindWritten}
-use Rattle.short_form.specs.Reachable.{Reachable, stay, onward, Moves, Stuck, Goes, Run}
+use Rattle.short_form.specs.Reachable.{Reachable, stay, onward, Goes, Run}
 
 -- a formula without variable means the same whatever set stands for the variable
 free-same : (m : ℕ) (steps : List Step) (f : Formula) → So (variableFree f) → (T U : ℕ → Bool) (s : ℕ) → holds m steps f T s ≡ holds m steps f U s

@@ -4,7 +4,7 @@ use mathlib.Core.Bool.{So}
 use mathlib.Core.List.{List}
 use mathlib.Core.Logic.{_↔_}
 use Rattle.settle.specs.Chain.{empty}
-use Rattle.chart.specs.Chart.{Chart, actions}
+use Rattle.chart.specs.Chart.{actions}
 use Rattle.chart.specs.Reading.{chartIn}
 use Rattle.chart.proofs.Accepted.{each-step}
 use Rattle.chart.proofs.Steps.{bytesAt-length}

@@ -1,4 +1,4 @@
--- Charts that rest, and the house form that name 3 had before T-05, which took it that none does.
+-- Charts that rest (document 02, T-05), and the house form that name 3 had before, which took it that none does.
 use Prim.Native.Nat.{ℕ, _<_, _≤_}
 use mathlib.Core.List.{List}
 use Rattle.chart.specs.Chart.{Step, Chart, states}

@@ -1,4 +1,5 @@
--- The four short forms of document 01 and T-05: the kind and the formula of the sheet that is written, for F without variable and a name.
+-- Document 01's four short forms, name 3 as document 02 has it (T-05): the kind and the formula of the sheet that is written, for F without
+-- variable and a name.
 use Prim.Native.Nat.{ℕ}
 use lib.Dec.{eqb}
 use Rattle.settle.specs.Test.{pick}

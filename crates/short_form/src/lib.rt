@@ -1,4 +1,4 @@
-// The sheet of a short form: document 01's table of four, for F without variable and a name.
+// The sheet of a short form: document 01's table of four, with name 3 by T-05, for F without variable and a name.
 use chart::ChartRead;
 use lent::LentAnswer;
 use sheet::SheetRead;

@@ -1,5 +1,5 @@
--- Document 01's starred boards and that of T-05: one list of cases, from the boards' own bytes, and what each case says in terms of the definitions.
--- That all of them hold is `starred-boards-hold` of proofs/Boards.antt.
+-- Document 01's starred boards, and document 02's of T-05: one list of cases, from the boards' own bytes, and what each case says in terms of the
+-- definitions. That all of them hold is `starred-boards-hold` of proofs/Boards.antt.
 use Prim.Native.Nat.{ℕ, _+_, _-_, _*_, _^_, _≤_, _<_}
 use mathlib.Core.Path.{_≡_}
 use mathlib.Core.Bool.{Bool, true, false}

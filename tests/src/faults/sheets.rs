@@ -15,6 +15,17 @@ fn names_every_action(o: &Outcome) -> bool {
     o.left.sheet.part().contains(&255)
 }
 
+/// The sheet is one that name 3 writes.
+fn eventually(o: &Outcome) -> bool {
+    let sheet = o.left.sheet.part();
+    sheet[1] == 1 && sheet[3] == 4 && sheet.ends_with(&[3, 5, 255, 1, 6, 255, 0])
+}
+
+/// No step leaves the state.
+fn rests(o: &Outcome, state: u8) -> bool {
+    o.left.chart.part()[o.counts().first_triple()..].chunks_exact(3).all(|triple| triple[0] != state)
+}
+
 pub const FAULTS: &[Fault] = &[
     Fault {
         name: "property-bit-63",
@@ -111,6 +122,36 @@ pub const FAULTS: &[Fault] = &[
         what: "F's own kind, greatest, in place of that of name 3, on a longest chart",
         when: |o| o.answers(ShortForm) && o.left.name == 3 && o.kind() == Some(2) && o.of_longest(),
         alter: |o| o.left.buffer.part_mut()[1] = 2,
+    },
+    Fault {
+        name: "eventually-false",
+        what: "diamond 255 false for diamond 255 true, where F has 194 nodes",
+        when: |o| o.answers(ShortForm) && o.left.name == 3 && o.nodes() == 194,
+        alter: |o| {
+            let leaf = o.filled() - 4;
+            o.left.buffer.part_mut()[leaf] = 2;
+        },
+    },
+    Fault {
+        name: "eventually-or",
+        what: "an or for the and of name 3, where F is the formula false",
+        when: |o| o.answers(ShortForm) && o.left.name == 3 && o.left.sheet.part()[2..] == [1, 2],
+        alter: |o| o.left.buffer.part_mut()[5] = 4,
+    },
+    Fault {
+        name: "eventually-limit",
+        what: "no refusal with name 3, where F has 195 nodes",
+        when: |o| o.refuses(10) && o.left.question == ShortForm && o.left.name == 3 && o.nodes() == 195,
+        alter: |o| o.code = 0,
+    },
+    Fault {
+        name: "eventually-at-rest",
+        what: "state 1 of two, at rest, counted as eventually F",
+        when: |o| o.answers(Property) && o.states() == 2 && eventually(o) && rests(o, 1) && o.left.numbers[0] & 2 == 0,
+        alter: |o| {
+            o.left.numbers[0] |= 2;
+            o.left.numbers[1] += 1;
+        },
     },
     Fault {
         name: "short-form-node-count",

@@ -21,7 +21,7 @@ pub const L_OR: [u8; 10] = [1, 1, 5, 4, 6, 0, 2, 5, 0, 0];
 pub const L_AND: [u8; 10] = [1, 1, 5, 3, 5, 0, 1, 6, 0, 0];
 
 /// The names of short forms, and the most nodes that F can have with each.
-pub const NAMES: [(u64, usize); 4] = [(0, 197), (1, 197), (2, 194), (3, 197)];
+pub const NAMES: [(u64, usize); 4] = [(0, 197), (1, 197), (2, 194), (3, 194)];
 
 fn expect_matrix(c: &mut Checker, what: &str, told: Told, states: u64, rounds: u64, cells: &[u8]) {
     let fine = told.code == 0 && told.numbers[..2] == [states, rounds] && told.buffer[..cells.len()] == *cells;
@@ -144,7 +144,7 @@ fn short_forms(c: &mut Checker) {
         (0, vec![1, 0, 5, 3, 5, 0, 1, 6, 255, 0]),
         (1, vec![1, 1, 5, 4, 5, 0, 1, 5, 255, 0]),
         (2, vec![1, 0, 8, 3, 5, 0, 1, 4, 6, 255, 2, 5, 255, 0]),
-        (3, vec![1, 1, 5, 4, 5, 0, 1, 6, 255, 0]),
+        (3, vec![1, 1, 8, 4, 5, 0, 1, 3, 5, 255, 1, 6, 255, 0]),
     ] {
         let length = written.len();
         let told = c.short_form(&E, &f, name, length);
@@ -153,11 +153,14 @@ fn short_forms(c: &mut Checker) {
         let told = c.short_form(&E, &f, name, length - 1);
         c.expect_refused("buffer a byte too short", &told, (2, 14, 0, 0));
     }
-    // eventually false, on L: only the resting state, by the house form
+    // eventually false, on L: by the old form the resting state counted, and now none does
+    let told = c.property(&L, &[1, 1, 4, 4, 2, 6, 255, 0]);
+    expect_satisfying(c, "eventually false on L, the old form", told, 4, 1, 1);
     let told = c.short_form(&L, &[1, 0, 1, 2], 3, 402);
     let written = told.buffer[..(told.numbers[0] as usize).min(402)].to_vec();
+    c.expect(written == [1, 1, 7, 4, 2, 3, 5, 255, 1, 6, 255, 0], || format!("eventually false: {written:?}"));
     let told = c.property(&L, &written);
-    expect_satisfying(c, "eventually false on L", told, 4, 1, 1);
+    expect_satisfying(c, "eventually false on L", told, 0, 0, 0);
 }
 
 /// What students try.

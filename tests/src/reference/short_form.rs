@@ -4,9 +4,9 @@ use super::chart;
 use super::refusal::{long_enough, Input, Refusal};
 use super::sheet::{self, Action, Formula};
 
-/// Document 01's table: the kind written, and the formula made of F.
+/// Document 01's table, with name 3 as document 02 has it (T-05): the kind written, and the formula made of F.
 pub fn table(name: u64, f: Formula) -> Option<(u8, Formula)> {
-    use Formula::{And, Diamond, False, Or, Variable};
+    use Formula::{And, Diamond, False, Or, True, Variable};
     let boxed = |g| Box::new(Formula::Box(Action::Every, Box::new(g)));
     let diamond = |g| Box::new(Diamond(Action::Every, Box::new(g)));
     let f = Box::new(f);
@@ -14,7 +14,7 @@ pub fn table(name: u64, f: Formula) -> Option<(u8, Formula)> {
         0 => Some((0, And(f, boxed(Variable)))),
         1 => Some((1, Or(f, diamond(Variable)))),
         2 => Some((0, And(f, Box::new(Or(boxed(False), diamond(Variable)))))),
-        3 => Some((1, Or(f, boxed(Variable)))),
+        3 => Some((1, Or(f, Box::new(And(diamond(True), boxed(Variable)))))),
         _ => None,
     }
 }
@@ -24,9 +24,6 @@ pub fn added(name: u64) -> usize {
     table(name, Formula::True)
         .map_or(0, |(kind, formula)| sheet::bytes(kind, &formula).len() - sheet::bytes(0, &Formula::True).len())
 }
-
-/// Does a resting state without F count as "eventually F"? With the house form of name 3 it does.
-pub const REST_COUNTS_AS_EVENTUALLY: bool = true;
 
 /// The length written.
 pub fn short_form(chart: &[u8], sheet: &[u8], name: u64, buffer: &mut [u8]) -> Result<u64, Refusal> {
