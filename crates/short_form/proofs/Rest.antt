@@ -12,12 +12,12 @@ use Rattle.settle.specs.Chain.{LeastSolution}
 use Rattle.settle.proofs.Test.{never, both-i, either-l, either-r, either-e}
 use Rattle.chart.specs.Chart.{Step, Chart, states, actions}
 use Rattle.chart.specs.Layout.{StepIn}
-use Rattle.sheet.specs.Formula.{every, Formula, bottom, or, box, variableFree}
+use Rattle.sheet.specs.Formula.{Formula, variableFree}
 use Rattle.sheet.specs.Meaning.{holds}
 use Rattle.sheet.specs.Solution.{applied, Satisfies}
 use Rattle.short_form.specs.ShortForm.{eventually, kindWritten}
 use Rattle.short_form.specs.Reachable.{Stuck, Goes, Run}
-use Rattle.short_form.specs.Rest.{houseForm, NeverRests, RestsBefore}
+use Rattle.short_form.specs.Rest.{houseForm, orRest, NeverRests, RestsBefore}
 use Rattle.short_form.proofs.Meaning.{diamond-i, box-i, box-e, box-n, F, missed, eventually-means}
 
 -- box X is: no step at all, or some step and box X
@@ -58,29 +58,25 @@ module _ (c : Chart) (steps-in : (t : Step) → Mem t (c .steps) → StepIn (sta
     abbrev Now : ℕ → Type 0
     Now = Satisfies c (kindWritten 3) (eventually f)
 
-    -- F or at rest
-    abbrev orRest : Formula
-    orRest = or f (box every bottom)
-
-    rest-free : So (variableFree orRest)
+    rest-free : So (variableFree (orRest f))
     unfolding variableFree
     rest-free = both-i free refl
 
-    one-application : (T : ℕ → Bool) (s : ℕ) → applied c (houseForm f) T s ≡ applied c (eventually orRest) T s
+    one-application : (T : ℕ → Bool) (s : ℕ) → applied c (houseForm f) T s ≡ applied c (eventually (orRest f)) T s
     unfolding holds
     one-application T s = box-parts _ _ _ _ (λ none. box-i c steps-in _ s (λ t i e. never (box-e c steps-in _ s none t i e))) (λ n. let d = box-n c steps-in _ s n in diamond-i c steps-in _ s (d .0) (d .1) (d .2) refl)
 
     -- the house form of F is `eventually` of 'F or at rest'
-    pub house-form-is : (s : ℕ) → Before s ↔ Satisfies c (kindWritten 3) (eventually orRest) s
+    pub house-form-is : (s : ℕ) → Before s ↔ Satisfies c (kindWritten 3) (eventually (orRest f)) s
     house-form-is s =
-        let same : applied c (houseForm f) ≡ applied c (eventually orRest) = fun-ext (λ T. fun-ext (one-application T)) in
+        let same : applied c (houseForm f) ≡ applied c (eventually (orRest f)) = fun-ext (λ T. fun-ext (one-application T)) in
         (subst (λ (g : (ℕ → Bool) → ℕ → Bool). LeastSolution (below (states c)) g s) same, subst (λ (g : (ℕ → Bool) → ℕ → Bool). LeastSolution (below (states c)) g s) (sym same))
 
     -- so it says: every run comes to F or is stuck
     pub house-form-means : (s : ℕ) → s < states c → Before s ↔ ((at : ℕ → ℕ) → Run (c .steps) s at → (k : ℕ) × (Has (at k) ⊎ Stuck (c .steps) (at k)))
     unfolding holds
     house-form-means s h =
-        let m = eventually-means c steps-in orRest rest-free s h in (
+        let m = eventually-means c steps-in (orRest f) rest-free s h in (
           λ r at run. let x = m .0 (house-form-is s .0 r) at run in (x .0, elim (either-e _ _ (x .1)) [ inl p ↦ inl p | inr none ↦ inr (λ t i e. never (box-e c steps-in _ _ none t i e)) ]),
           λ all. house-form-is s .1 (m .1 (λ at run. let x = all at run in (x .0, ⊎-elim (λ p. either-l _ p) (λ stuck. either-r _ (box-i c steps-in _ _ (λ t i e. absurd (stuck t i e)))) (x .1)))),
         )

@@ -2,12 +2,16 @@
 use Prim.Native.Nat.{ℕ, _<_, _≤_}
 use mathlib.Core.List.{List}
 use Rattle.chart.specs.Chart.{Step, Chart, states}
-use Rattle.sheet.specs.Formula.{every, Formula, variable, or, box}
+use Rattle.sheet.specs.Formula.{every, Formula, variable, bottom, or, box}
 use Rattle.short_form.specs.Reachable.{Stuck, Run}
 
 -- or F, box 255 X; the kind was 1, as it still is
 abbrev pub houseForm : Formula → Formula
 houseForm f = or f (box every variable)
+
+-- F or at rest
+abbrev pub orRest : Formula → Formula
+orRest f = or f (box every bottom)
 
 -- no state of the chart rests
 abbrev pub NeverRests : Chart → Type 0
