@@ -18,7 +18,7 @@ safePath f = and f (or (box every bottom) (diamond every variable))
 abbrev pub eventually : Formula → Formula
 eventually f = or f (and (diamond every top) (box every variable))
 
--- a row of the table by name: 0 always, 1 possible, 2 safe path, 3 eventually
+-- what the table has for a name, of one entry each: 0 always, 1 possible, 2 safe path, 3 eventually
 abbrev pub byName : {A : Type 0} → ℕ → A → A → A → A → A
 byName name a b c d = pick (eqb name 0) a (pick (eqb name 1) b (pick (eqb name 2) c d))
 

@@ -55,8 +55,8 @@ fn first_variable(sheet: &[u8]) -> usize
     at
 }
 
-// The table's row of a name: always, possible, safe path, eventually.
-fn row(name: u64, always: u8, possible: u8, path: u8, eventually: u8) -> u8
+// What the table has for a name, of one entry each for always, possible, safe path and eventually.
+fn by_name(name: u64, always: u8, possible: u8, path: u8, eventually: u8) -> u8
     ensures { λ r. ⌜ r ≡ byName name always possible path eventually ⌝ }
 {
     if name == 0 {
@@ -75,28 +75,28 @@ fn row(name: u64, always: u8, possible: u8, path: u8, eventually: u8) -> u8
 fn kind_written(name: u64) -> u8
     ensures { λ r. ⌜ r ≡ kindWritten name ⌝ }
 {
-    row(name, 0, 1, 0, 1)
+    by_name(name, 0, 1, 0, 1)
 }
 
 // The and or the or that the form begins with.
 fn operator(name: u64) -> u8
     ensures { λ r. ⌜ r ≡ operatorOf name ⌝ }
 {
-    row(name, 3, 4, 3, 4)
+    by_name(name, 3, 4, 3, 4)
 }
 
 // How many nodes the form has beside those of F.
 fn more_nodes(name: u64) -> usize
     ensures { λ r. ⌜ r ≡ moreNodes name ⌝ }
 {
-    row(name, 3, 3, 6, 6) as usize
+    by_name(name, 3, 3, 6, 6) as usize
 }
 
 // How many bytes follow F.
 fn operand_size(name: u64) -> usize
     ensures { λ r. ⌜ r ≡ length (operandOf name) ⌝ }
 {
-    row(name, 3, 3, 7, 7) as usize
+    by_name(name, 3, 3, 7, 7) as usize
 }
 
 // The second operand of the form, after F.

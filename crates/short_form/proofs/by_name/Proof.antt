@@ -1,6 +1,6 @@
 use borrow.Author.Tests.{eq-eqb, ne-eqb}
-use Rattle.short_form.proofs.row.Statement.{statement}
-use Rattle.short_form.proofs.row.Tie as tie
+use Rattle.short_form.proofs.by_name.Statement.{statement}
+use Rattle.short_form.proofs.by_name.Tie as tie
 
 returns : tie.Need-returns
 returns c = rw (eq-eqb _ _ (c .if1 .taken))
@@ -14,5 +14,5 @@ returns-3 c = rw (ne-eqb _ _ (c .before .before .if1 .left), ne-eqb _ _ (c .befo
 returns-4 : tie.Need-returns-4
 returns-4 c = rw (ne-eqb _ _ (c .before .before .if1 .left), ne-eqb _ _ (c .before .if2 .left), ne-eqb _ _ (c .if3 .left))
 
-pub row-spec : {M : Type 1} → statement M
-row-spec = tie.close (tie.spec returns returns-2 returns-3 returns-4)
+pub by-name-spec : {M : Type 1} → statement M
+by-name-spec = tie.close (tie.spec returns returns-2 returns-3 returns-4)
