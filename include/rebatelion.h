@@ -12,10 +12,11 @@
  * - Inputs (chart, sheet, second chart, list) are a pointer and a length. They are read during the call only and never written.
  * - A buffer is a pointer and a length. An answer fills its start; the bytes after that stay as they were.
  * - A number is a pointer to one aligned uint64_t, never null. An answer is written there.
+ * - Three numbers are a pointer to an array of three, aligned as one is, never null. An answer is written to all three.
  * - Everything lent must stay in place until the call returns, and may be freed or reused from then on: no pointer is kept.
- * - What is written, a buffer or a number, must not overlap any other part that is lent to the same call. Two inputs may
- *   overlap, or be the same bytes, since both are only read.
- * - No other thread may write to any part during the call, nor read a buffer or a number.
+ * - What is written, a buffer, a number or an array of numbers, must not overlap any other part that is lent to the same call,
+ *   another array included. Two inputs may overlap, or be the same bytes, since both are only read.
+ * - No other thread may write to any part during the call, nor read a buffer, a number or an array of numbers.
  * - Where a length is 0 the pointer is not used and may be null.
  *
  * WHAT IS RETURNED
@@ -100,7 +101,8 @@ uint64_t rebatelion_simulation(const uint8_t *chart, size_t chart_len, uint8_t *
                                uint64_t *rounds);
 
 /* The states that satisfy a property sheet, by the solution that its kind asks for: 1 the least, 2 the greatest, and 0, unsaid,
- * the greatest.
+ * the least. The kind is byte 1 of the sheet, counted from 0. (Unsaid was the greatest. A sheet of kind 0 that was stored then is
+ * read as least now: rebatelion_both_solutions tells what that changes, and its owner writes the kind that is meant.)
  *
  * Answers *word, whose bit s is set where state s satisfies; *count, how many do; and *rounds, the steps until the solution was
  * reached, at most n.
@@ -109,12 +111,27 @@ uint64_t rebatelion_simulation(const uint8_t *chart, size_t chart_len, uint8_t *
 uint64_t rebatelion_property(const uint8_t *chart, size_t chart_len, const uint8_t *sheet, size_t sheet_len, uint64_t *word,
                              uint64_t *count, uint64_t *rounds);
 
+/* Both solutions of a property sheet, the least and the greatest, whatever its kind says, so that its owner can choose.
+ *
+ * Answers in least[0] the word of the least solution, in least[1] how many states it has and in least[2] its rounds, as
+ * rebatelion_property does where the kind is 1; and in greatest those of the greatest, as where it is 2. Every state of the least
+ * is one of the greatest.
+ * The word of a stored sheet of kind 0 was greatest[0] and is least[0]. Where the two are equal, the states that satisfy it on this
+ * chart stay what they were, and only the rounds may be others. Where they are not, kind 2 keeps what the sheet said, and kind 1
+ * says what it is read as now.
+ *
+ * Refuses what is wrong with the chart; then what is wrong with the sheet, a kind above 2 too. */
+uint64_t rebatelion_both_solutions(const uint8_t *chart, size_t chart_len, const uint8_t *sheet, size_t sheet_len,
+                                   uint64_t least[3], uint64_t greatest[3]);
+
 /* A property sheet made from a sheet for F, a formula without variable, by one of four short forms.
  *
  * Name: 0 always F, 1 possibly F, 2 a safe path (some way to go on as long as the chart does, with F all along), 3 eventually F.
  * Eventually F is "or F, and (diamond 255 true), box 255 X": every way to go on comes to F. One that comes to rest before F does
  * not, and a state at rest satisfies it only where F holds. (It was "or F, box 255 X", by which every state at rest satisfied it; a
  * sheet that was made so is still read as it stands.)
+ * The kind written is 2, the greatest, with names 0 and 2, and 1, the least, with names 1 and 3. (Names 0 and 2 wrote kind 0 while
+ * unsaid was the greatest. A stored sheet that was made so says the same again with its byte 1 set to 2, or made anew.)
  * F may have at most 197 nodes with names 0 and 1, and 194 with names 2 and 3.
  * F's own kind is ignored. The sheet fills the start of the buffer, and *written is its length; a buffer of
  * REBATELION_MAX_SHEET bytes is always long enough. Hand it to rebatelion_property with a chart that has the same actions.

@@ -6,15 +6,16 @@ use Rattle.relation.specs.declared.MatrixAnswer.{MatrixAnswer}
 use Rattle.marks.proofs.Promise.{marks-determined}
 use Rattle.simulation.proofs.Promise.{simulation-determined}
 use Rattle.property.proofs.Promise.{property-determined}
+use Rattle.both_solutions.proofs.Promise.{both-determined}
 use Rattle.short_form.proofs.Promise.{short-form-determined}
 use Rattle.lent.specs.declared.LentAnswer.{LentAnswer}
 use Rattle.reasons.proofs.Promise.{reasons-determined}
 use Rattle.check_reasons.proofs.Promise.{check-determined}
 use Rattle.compare.proofs.Determined.{compare-determined}
-use Rattle.calls.specs.Shown.{lent, matrixCode, matrixStates, matrixRounds, MatrixShown, MarksShown, SimulationShown, propertyCode, wordLeft, countLeft, roundsLeft, PropertyShown, writtenCode, writtenLeft, WrittenShown, ShortFormShown, ReasonsShown, checkCode, linesLeft, CheckShown, compareCode, compareWritten, compareRounds, CompareShown}
+use Rattle.calls.specs.Shown.{lent, matrixCode, matrixStates, matrixRounds, MatrixShown, MarksShown, SimulationShown, propertyCode, wordLeft, countLeft, roundsLeft, PropertyShown, bothCode, leastLeft, greatestLeft, BothShown, writtenCode, writtenLeft, WrittenShown, ShortFormShown, ReasonsShown, checkCode, linesLeft, CheckShown, compareCode, compareWritten, compareRounds, CompareShown}
 
 -- what follows from equal answers
-along : {A : Type 0} (f : A → ℕ) {x y : A} {m n : ℕ} → x ≡ y → m ≡ f x → n ≡ f y → m ≡ n
+along : {A B : Type 0} (f : A → B) {x y : A} {m n : B} → x ≡ y → m ≡ f x → n ≡ f y → m ≡ n
 along f e p q = p ∙ ap f e ∙ sym q
 
 -- where the promise leaves no choice
@@ -43,6 +44,13 @@ pub property-shown-determined : (chart sheet : List ℕ) (w w₁ w₂ n n₁ n�
 property-shown-determined chart sheet w w₁ w₂ n n₁ n₂ r r₁ r₂ c₁ c₂ x y =
     let e = property-determined chart sheet _ _ (x .promised) (y .promised) in
     (along propertyCode e (x .code-is) (y .code-is), along (wordLeft w) e (x .word-is) (y .word-is), along (countLeft n) e (x .count-is) (y .count-is), along (roundsLeft r) e (x .rounds-is) (y .rounds-is))
+
+pub both-shown-determined : (chart sheet l l₁ l₂ g g₁ g₂ : List ℕ) (c₁ c₂ : ℕ)
+    → BothShown chart sheet l l₁ g g₁ c₁ → BothShown chart sheet l l₂ g g₂ c₂
+    → (c₁ ≡ c₂) × (l₁ ≡ l₂) × (g₁ ≡ g₂)
+both-shown-determined chart sheet l l₁ l₂ g g₁ g₂ c₁ c₂ x y =
+    let e = both-determined chart sheet _ _ (x .promised) (y .promised) in
+    (along bothCode e (x .code-is) (y .code-is), along (leastLeft l) e (x .least-is) (y .least-is), along (greatestLeft g) e (x .greatest-is) (y .greatest-is))
 
 written-shown-determined : {Promise : List ℕ → List ℕ → LentAnswer → Type 0}
     → ((old a b : List ℕ) (s t : LentAnswer) → Promise old a s → Promise old b t → (s ≡ t) × (a ≡ b))

@@ -21,8 +21,13 @@ use Rattle.sheet.proofs.Found.{number-some, number-few, bytes-few}
 use Rattle.sheet.proofs.Accepted.{layout-read, refusal-small}
 use Rattle.relation.specs.Promise.{Saying, Relations, MatrixPromise}
 use Rattle.relation.specs.declared.MatrixAnswer.the-variants as Matrices
+use Rattle.solve.specs.declared.PropertyAnswer.the-variants as Property
 use Rattle.property.specs.Promise.{PropertyPromise}
-use Rattle.property.specs.declared.PropertyAnswer.the-variants as Property
+use Rattle.property.proofs.SheetPromise.{Unread, of-chart, of-sheet}
+use Rattle.property.proofs.Promise.{property-refused-exactly}
+use Rattle.both_solutions.specs.Promise.{BothPromise}
+use Rattle.both_solutions.specs.declared.BothAnswer.the-variants as Both
+use Rattle.both_solutions.proofs.Promise.{both-refused-exactly}
 use Rattle.lent.specs.Lent.{refuses}
 use Rattle.lent.specs.declared.LentAnswer.the-variants as Lent
 use Rattle.lent.proofs.Lent.{no-bytes, refused-by}
@@ -74,21 +79,17 @@ matrix-packable chart old new r p = by-chart (readChart chart) refl
     by-chart (Read.Refused s) e = packable-as (out s (p .chart-refused s e)) (chart-packable chart s e)
     by-chart (Read.Chart sh) e = by-room sh e (decLt (length old) (sh .n * sh .n))
 
--- ---- property
+-- ---- property, and both solutions
+
+unread-packable : (chart bytes : List ℕ) (r : Refusal) → Unread chart bytes r → Packable r
+unread-packable chart bytes r (of-chart e) = chart-packable chart r e
+unread-packable chart bytes r (of-sheet sh e d) = sheet-packable bytes (sh .m) r d
 
 pub property-packable : (chart bytes : List ℕ) (r : Refusal) → PropertyPromise chart bytes (Property.Refused r) → Packable r
-property-packable chart bytes r p = by-chart (readChart chart) refl
-  where
-    out : (s : Refusal) → Property.Refused r ≡ Property.Refused s → r ≡ s
-    out s e = cc
+property-packable chart bytes r p = unread-packable chart bytes r (property-refused-exactly chart bytes r .0 p)
 
-    by-sheet : (sh : Shape) → readChart chart ≡ Read.Chart sh → (x : Sheet) → readSheet bytes (sh .m) ≡ x → Packable r
-    by-sheet sh e (refused s) d = packable-as (out s (p .sheet-refused sh s e d)) (sheet-packable bytes (sh .m) s d)
-    by-sheet sh e (sheet kind count f) d = packable-as (p .both-accepted sh kind count f e d .refusal-is) (lent-packable 15 (omega arith) (omega arith))
-
-    by-chart : (x : ChartRead) → readChart chart ≡ x → Packable r
-    by-chart (Read.Refused s) e = packable-as (out s (p .chart-refused s e)) (chart-packable chart s e)
-    by-chart (Read.Chart sh) e = by-sheet sh e (readSheet bytes (sh .m)) refl
+pub both-packable : (chart bytes : List ℕ) (r : Refusal) → BothPromise chart bytes (Both.Refused r) → Packable r
+both-packable chart bytes r p = unread-packable chart bytes r (both-refused-exactly chart bytes r .0 p)
 
 -- ---- short form
 

@@ -13,10 +13,15 @@ use Rattle.marks.proofs.Promise.{marks-determined}
 use Rattle.simulation.specs.Promise.{SimulationPromise}
 use Rattle.simulation.proofs.Promise.{simulation-determined}
 use Rattle.property.specs.Promise.{PropertyPromise}
-use Rattle.property.specs.declared.Solved.{Solved}
-use Rattle.property.specs.declared.PropertyAnswer.{PropertyAnswer}
-use Rattle.property.specs.declared.PropertyAnswer.the-variants as Property
+use Rattle.solve.specs.declared.Solved.{Solved}
+use Rattle.solve.specs.declared.PropertyAnswer.{PropertyAnswer}
+use Rattle.solve.specs.declared.PropertyAnswer.the-variants as Property
 use Rattle.property.proofs.Promise.{property-determined}
+use Rattle.both_solutions.specs.Promise.{BothPromise}
+use Rattle.both_solutions.specs.declared.Solutions.{Solutions}
+use Rattle.both_solutions.specs.declared.BothAnswer.{BothAnswer}
+use Rattle.both_solutions.specs.declared.BothAnswer.the-variants as Both
+use Rattle.both_solutions.proofs.Promise.{both-determined}
 use Rattle.lent.specs.declared.LentAnswer.{LentAnswer}
 use Rattle.lent.specs.declared.LentAnswer.the-variants.{Written, Refused}
 use Rattle.lent.proofs.Lent.{not-written}
@@ -33,10 +38,10 @@ use Rattle.compare.specs.declared.CompareAnswer.{CompareAnswer}
 use Rattle.compare.specs.declared.CompareAnswer.the-variants as Compare
 use Rattle.compare.proofs.Determined.{not-compared, compare-determined}
 use Rattle.calls.specs.Packing.{packed, Parts}
-use Rattle.calls.specs.Shown.{Lent, matrixCode, MarksShown, SimulationShown, propertyCode, PropertyShown, writtenCode, ShortFormShown, ReasonsShown, checkCode, CheckShown, compareCode, CompareShown}
+use Rattle.calls.specs.Shown.{Lent, matrixCode, MarksShown, SimulationShown, propertyCode, PropertyShown, bothCode, BothShown, writtenCode, ShortFormShown, ReasonsShown, checkCode, CheckShown, compareCode, CompareShown}
 use Rattle.calls.specs.Told.{Told}
 use Rattle.calls.proofs.Packing.{Packable, packed-some, packing}
-use Rattle.calls.proofs.Packable.{matrix-packable, property-packable, short-form-packable, reasons-packable, check-packable, compare-packable}
+use Rattle.calls.proofs.Packable.{matrix-packable, property-packable, both-packable, short-form-packable, reasons-packable, check-packable, compare-packable}
 
 -- ---- what all share
 
@@ -90,6 +95,21 @@ pub property-told : (chart sheet : List ℕ) (word count rounds : Lent) (code : 
 property-told chart sheet word count rounds code x =
     told (property-determined chart sheet) (property-packable chart sheet) not-satisfied
     (x .answer) (x .promised) (satisfied-or-refused (x .answer) (x .code-is))
+
+-- ---- both solutions
+
+both-or-refused : {code : ℕ} (a : BothAnswer) → code ≡ bothCode a → Coded Both.Both Both.Refused a code
+both-or-refused (Both.Both solutions) e = inl (solutions, refl, e)
+both-or-refused (Both.Refused r) e = inr (r, refl, e)
+
+not-both : (solutions : Solutions) (r : Refusal) → Both.Both solutions ≡ Both.Refused r → ⊥
+not-both solutions r e = let z : _≡_ {A = ℕ} 0 1 = cc in omega arith
+
+pub both-told : (chart sheet least newLeast greatest newGreatest : List ℕ) (code : ℕ) → BothShown chart sheet least newLeast greatest newGreatest code
+    → Told Both.Both Both.Refused (BothPromise chart sheet) code
+both-told chart sheet least newLeast greatest newGreatest code x =
+    told (both-determined chart sheet) (both-packable chart sheet) not-both
+    (x .answer) (x .promised) (both-or-refused (x .answer) (x .code-is))
 
 -- ---- short form
 

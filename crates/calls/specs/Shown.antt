@@ -3,13 +3,18 @@
 use Prim.Native.Nat.{ℕ}
 use mathlib.Core.Path.{_≡_}
 use mathlib.Core.List.{List}
+use lib.ListN.{set}
 use Rattle.relation.specs.declared.MatrixAnswer.{MatrixAnswer}
 use Rattle.relation.specs.declared.MatrixAnswer.the-variants as Matrices
 use Rattle.marks.specs.Promise.{MarksPromise}
 use Rattle.simulation.specs.Promise.{SimulationPromise}
 use Rattle.property.specs.Promise.{PropertyPromise}
-use Rattle.property.specs.declared.PropertyAnswer.{PropertyAnswer}
-use Rattle.property.specs.declared.PropertyAnswer.the-variants as Property
+use Rattle.solve.specs.declared.PropertyAnswer.{PropertyAnswer}
+use Rattle.solve.specs.declared.PropertyAnswer.the-variants as Property
+use Rattle.solve.specs.declared.Solved.{Solved}
+use Rattle.both_solutions.specs.Promise.{BothPromise}
+use Rattle.both_solutions.specs.declared.BothAnswer.{BothAnswer}
+use Rattle.both_solutions.specs.declared.BothAnswer.the-variants as Both
 use Rattle.lent.specs.declared.LentAnswer.{LentAnswer}
 use Rattle.lent.specs.declared.LentAnswer.the-variants.{Written, Refused}
 use Rattle.short_form.specs.Promise.{ShortFormPromise}
@@ -83,6 +88,32 @@ pub record PropertyShown (chart sheet : List ℕ) (word count rounds : Lent) (co
   pub word-is : word .after ≡ wordLeft (word .before) answer
   pub count-is : count .after ≡ countLeft (count .before) answer
   pub rounds-is : rounds .after ≡ roundsLeft (rounds .before) answer
+
+-- ---- both solutions: three numbers are lent for each
+
+abbrev pub bothCode : BothAnswer → ℕ
+bothCode (Both.Both a) = 0
+bothCode (Both.Refused r) = packed r
+
+-- the word, the count and the rounds in their place. Where three numbers were lent these are all of them: `three-numbers` of proofs/Three.antt
+abbrev pub solvedIn : List ℕ → Solved → List ℕ
+solvedIn old a = set (set (set old 0 (a .word)) 1 (a .count)) 2 (a .rounds)
+
+abbrev pub leastLeft : List ℕ → BothAnswer → List ℕ
+leastLeft old (Both.Both a) = solvedIn old (a .least)
+leastLeft old (Both.Refused r) = old
+
+abbrev pub greatestLeft : List ℕ → BothAnswer → List ℕ
+greatestLeft old (Both.Both a) = solvedIn old (a .greatest)
+greatestLeft old (Both.Refused r) = old
+
+-- the numbers lent for the least solution, before and after, and those for the greatest
+pub record BothShown (chart sheet least newLeast greatest newGreatest : List ℕ) (code : ℕ) : Type 0 where
+  pub answer : BothAnswer
+  pub promised : BothPromise chart sheet answer
+  pub code-is : code ≡ bothCode answer
+  pub least-is : newLeast ≡ leastLeft least answer
+  pub greatest-is : newGreatest ≡ greatestLeft greatest answer
 
 -- ---- bytes in a lent buffer: short form, and reasons
 

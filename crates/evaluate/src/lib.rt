@@ -1,2 +1,2 @@
-// Evaluating a formula on words: the layer below property, whose functions ask what an accepted chart and sheet give.
+// Evaluating a formula on words: the layer below solve, whose functions ask what an accepted chart and sheet give.
 pub mod formula;

@@ -3,6 +3,7 @@ use Prim.Native.Nat.{ℕ}
 use mathlib.Core.Path.{_≡_, refl, sym, ap, _∙_}
 use mathlib.Core.List.{List}
 use lib.Dec.{eqb}
+use lib.ListN.{length}
 use borrow.Author.Tests.{eq-eqb, ne-eqb}
 use Rattle.settle.specs.Test.{pick}
 use Rattle.refusal.specs.Refusal.{inputNumber}
@@ -14,8 +15,11 @@ use Rattle.relation.specs.Promise.{Saying, Relations, MatrixPromise}
 use Rattle.relation.specs.declared.MatrixAnswer.{MatrixAnswer}
 use Rattle.relation.specs.declared.MatrixAnswer.the-variants as Matrices
 use Rattle.property.specs.Promise.{PropertyPromise}
-use Rattle.property.specs.declared.PropertyAnswer.{PropertyAnswer}
-use Rattle.property.specs.declared.PropertyAnswer.the-variants as Property
+use Rattle.solve.specs.declared.PropertyAnswer.{PropertyAnswer}
+use Rattle.solve.specs.declared.PropertyAnswer.the-variants as Property
+use Rattle.both_solutions.specs.Promise.{BothPromise}
+use Rattle.both_solutions.specs.declared.BothAnswer.{BothAnswer}
+use Rattle.both_solutions.specs.declared.BothAnswer.the-variants as Both
 use Rattle.lent.specs.declared.LentAnswer.{LentAnswer}
 use Rattle.lent.specs.declared.LentAnswer.the-variants as Form
 use Rattle.check_reasons.specs.Promise.{CheckPromise}
@@ -25,22 +29,25 @@ use Rattle.compare.specs.Promise.{ComparePromise}
 use Rattle.compare.specs.declared.CompareAnswer.{CompareAnswer}
 use Rattle.compare.specs.declared.CompareAnswer.the-variants as Comparing
 use Rattle.calls.specs.Packing.{packed}
-use Rattle.calls.specs.Shown.{lent, matrixCode, matrixStates, matrixRounds, propertyCode, wordLeft, countLeft, roundsLeft, writtenCode, writtenLeft, checkCode, linesLeft, compareCode, compareWritten, compareRounds, MatrixShown, MarksShown, SimulationShown, PropertyShown, WrittenShown, CheckShown, CompareShown}
+use Rattle.calls.specs.Shown.{lent, matrixCode, matrixStates, matrixRounds, propertyCode, wordLeft, countLeft, roundsLeft, bothCode, leastLeft, greatestLeft, writtenCode, writtenLeft, checkCode, linesLeft, compareCode, compareWritten, compareRounds, MatrixShown, MarksShown, SimulationShown, PropertyShown, BothShown, WrittenShown, CheckShown, CompareShown}
+use Rattle.calls.proofs.Three.{three-numbers}
 use Rattle.calls.proofs.Packing.{Packable, packed-some, packing}
-use Rattle.calls.proofs.Packable.{matrix-packable, property-packable, short-form-packable, reasons-packable, check-packable, compare-packable}
+use Rattle.calls.proofs.Packable.{matrix-packable, property-packable, both-packable, short-form-packable, reasons-packable, check-packable, compare-packable}
 use Rattle.idle.specs.Slice.{Slice}
 use Rattle.idle.specs.Matrix as Matrix
 use Rattle.idle.specs.Property as Properties
+use Rattle.idle.specs.BothSolutions as Boths
 use Rattle.idle.specs.Written as Written
 use Rattle.idle.specs.ShortForm.{Asked}
 use Rattle.idle.specs.ShortForm as ShortForms
 use Rattle.idle.specs.Reasons as Reasoning
 use Rattle.idle.specs.CheckReasons as Checks
 use Rattle.idle.specs.Compare as Compare
-use Rattle.idle.specs.Call.{inputOf, refusalOf, MatrixLeft, matrixRead, matrixBuild, MeetsMatrix, PropertyLeft, propertyRead, propertyBuild, MeetsProperty, WrittenLeft, writtenRead, writtenBuild, MeetsWritten, CheckLeft, checkRead, checkBuild, MeetsCheck, CompareLeft, compareRead, compareBuild, MeetsCompare}
+use Rattle.idle.specs.Call.{inputOf, refusalOf, MatrixLeft, matrixRead, matrixBuild, MeetsMatrix, PropertyLeft, propertyRead, propertyBuild, MeetsProperty, BothLeft, bothRead, bothBuild, MeetsBoth, WrittenLeft, writtenRead, writtenBuild, MeetsWritten, CheckLeft, checkRead, checkBuild, MeetsCheck, CompareLeft, compareRead, compareBuild, MeetsCompare}
 use Rattle.idle.proofs.Marks.{marks-not-idle}
 use Rattle.idle.proofs.Simulation.{simulation-not-idle}
 use Rattle.idle.proofs.Property.{property-not-idle}
+use Rattle.idle.proofs.BothSolutions.{both-not-idle}
 use Rattle.idle.proofs.ShortForm.{short-form-not-idle}
 use Rattle.idle.proofs.Reasons.{reasons-not-idle}
 use Rattle.idle.proofs.CheckReasons.{check-not-idle}
@@ -103,6 +110,19 @@ property-promised chart sheet word count rounds x s = go (s .answer) (s .promise
 pub property-call-not-idle : (word count rounds : ℕ) (call : Slice → Slice → PropertyLeft) → MeetsProperty word count rounds call → Properties.NotIdle (propertyBuild call)
 property-call-not-idle word count rounds call s =
     property-not-idle (propertyBuild call) (λ chart sheet. property-promised (chart .0) (sheet .0) word count rounds (call chart sheet) (s chart sheet))
+
+-- ---- both solutions
+
+both-promised : (chart sheet least greatest : List ℕ) → length least ≡ 3 → length greatest ≡ 3 → (x : BothLeft)
+    → BothShown chart sheet least (x .least) greatest (x .greatest) (x .code) → BothPromise chart sheet (bothRead x)
+both-promised chart sheet least greatest three also x s = go (s .answer) (s .promised) (s .code-is) (s .least-is) (s .greatest-is)
+  where
+    go : (a : BothAnswer) → BothPromise chart sheet a → x .code ≡ bothCode a → x .least ≡ leastLeft least a → x .greatest ≡ greatestLeft greatest a → BothPromise chart sheet (bothRead x)
+    go (Both.Both a) p c e f = read-given (BothPromise chart sheet) Both.Refused _ (x .code) c (rw (e ∙ three-numbers least three (a .least), f ∙ three-numbers greatest also (a .greatest)) p)
+    go (Both.Refused r) p c e f = read-refused (BothPromise chart sheet) Both.Refused _ (x .code) r (both-packable chart sheet r p) c p
+
+pub both-call-not-idle : (least greatest : List ℕ) → length least ≡ 3 → length greatest ≡ 3 → (call : Slice → Slice → BothLeft) → MeetsBoth least greatest call → Boths.NotIdle (bothBuild call)
+both-call-not-idle least greatest three also call s = both-not-idle (bothBuild call) (λ chart sheet. both-promised (chart .0) (sheet .0) least greatest three also (call chart sheet) (s chart sheet))
 
 -- ---- short form and reasons
 

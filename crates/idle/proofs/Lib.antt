@@ -4,6 +4,7 @@ pub mod Matrix
 pub mod Marks
 pub mod Simulation
 pub mod Property
+pub mod BothSolutions
 pub mod Written
 pub mod ShortForm
 pub mod Compare

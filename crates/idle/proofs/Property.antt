@@ -21,9 +21,9 @@ use Rattle.words.specs.Words.{member}
 use Rattle.starred.specs.Boards.{chartL, sheetOr, starred, SatisfiesAre, Holds}
 use Rattle.starred.proofs.Boards.{starred-boards-hold, of-chart, shapeL, read-L}
 use Rattle.property.specs.Promise.{Solution, PropertyPromise}
-use Rattle.property.specs.declared.Solved.{Solved}
-use Rattle.property.specs.declared.PropertyAnswer.{PropertyAnswer}
-use Rattle.property.specs.declared.PropertyAnswer.the-variants.{Satisfied, Refused}
+use Rattle.solve.specs.declared.Solved.{Solved}
+use Rattle.solve.specs.declared.PropertyAnswer.{PropertyAnswer}
+use Rattle.solve.specs.declared.PropertyAnswer.the-variants.{Satisfied, Refused}
 use Rattle.property.proofs.Promise.{never-15}
 use Rattle.idle.specs.Slice.{Slice}
 use Rattle.idle.specs.Property.{Build, Meets, RefusesEverything, SameAlways, CopiesFirstRound, InventsRounds, NotIdle}
@@ -31,13 +31,13 @@ use Rattle.idle.proofs.Slice.{are-bytes, l}
 
 -- ---- the chart and the two sheets
 
-abbrev c : Chart
+abbrev pub c : Chart
 c = chartIn chartL shapeL
 
-abbrev f : Formula
+abbrev pub f : Formula
 f = or (box (only 0) bottom) (diamond (only 0) variable)
 
-read-least : readSheet (sheetOr 1) 1 ≡ sheet 1 5 f
+pub read-least : readSheet (sheetOr 1) 1 ≡ sheet 1 5 f
 unfolding sheetOr readSheet readNodes parse nodeAt
 read-least = refl
 
@@ -45,7 +45,7 @@ read-greatest : readSheet (sheetOr 2) 1 ≡ sheet 2 5 f
 unfolding sheetOr readSheet readNodes parse nodeAt
 read-greatest = refl
 
-bytes-least : Bytes (sheetOr 1)
+pub bytes-least : Bytes (sheetOr 1)
 unfolding sheetOr allOf both
 bytes-least = are-bytes (sheetOr 1) refl
 
@@ -53,7 +53,7 @@ bytes-greatest : Bytes (sheetOr 2)
 unfolding sheetOr allOf both
 bytes-greatest = are-bytes (sheetOr 2) refl
 
-abbrev least : Slice
+abbrev pub least : Slice
 least = (sheetOr 1, bytes-least)
 
 abbrev greatest : Slice
@@ -61,26 +61,26 @@ greatest = (sheetOr 2, bytes-greatest)
 
 -- ---- their boards
 
-abbrev Board : List ℕ → ℕ → ℕ → ℕ → Chart → Type 0
+abbrev pub Board : List ℕ → ℕ → ℕ → ℕ → Chart → Type 0
 Board s word number rounds d = (kind : ℕ) × (g : Formula) × (nodes : ℕ) × (readSheet s (actions d) ≡ sheet kind nodes g) × SatisfiesAre kind g word number rounds d
 
-of-sheet : (s : List ℕ) (kind nodes : ℕ) → readSheet s 1 ≡ sheet kind nodes f → {word number rounds : ℕ} → Board s word number rounds c → SatisfiesAre kind f word number rounds c
+pub of-sheet : (s : List ℕ) (kind nodes : ℕ) (h : Formula) → readSheet s 1 ≡ sheet kind nodes h → {word number rounds : ℕ} → Board s word number rounds c → SatisfiesAre kind h word number rounds c
 unfolding chartL bytesAt
-of-sheet s kind nodes e (k, g, n, d, says) =
+of-sheet s kind nodes h e (k, g, n, d, says) =
     let i : k ≡ kind = cc in
-    let j : g ≡ f = cc in
+    let j : g ≡ h = cc in
     rw (← i, ← j) says
 
-board-least : SatisfiesAre 1 f 6 2 2 c
+pub board-least : SatisfiesAre 1 f 6 2 2 c
 unfolding starred Holds
-board-least = of-sheet (sheetOr 1) 1 5 read-least (of-chart (Board (sheetOr 1) 6 2 2) chartL shapeL read-L (starred-boards-hold _ (there (there (there (there (here refl)))))))
+board-least = of-sheet (sheetOr 1) 1 5 f read-least (of-chart (Board (sheetOr 1) 6 2 2) chartL shapeL read-L (starred-boards-hold _ (there (there (there (there (here refl)))))))
 
-board-greatest : SatisfiesAre 2 f 7 3 0 c
+pub board-greatest : SatisfiesAre 2 f 7 3 0 c
 unfolding starred Holds
-board-greatest = of-sheet (sheetOr 2) 2 5 read-greatest (of-chart (Board (sheetOr 2) 7 3 0) chartL shapeL read-L (starred-boards-hold _ (there (there (there (there (there (here refl))))))))
+board-greatest = of-sheet (sheetOr 2) 2 5 f read-greatest (of-chart (Board (sheetOr 2) 7 3 0) chartL shapeL read-L (starred-boards-hold _ (there (there (there (there (there (here refl))))))))
 
 -- one round does not find state 1
-once : false ≡ applications c 1 f 1 1
+pub once : false ≡ applications c 1 f 1 1
 unfolding chartL stepsAt empty chain holds someLabel everyLabel someStep everyStep leaves some each anyOf allOf both either implies
 once = refl
 

@@ -29,7 +29,7 @@ abbrev asked : (name : ℕ) → name < 2 ^ 64 → Asked
 asked name h = record { chart = l; sheet = (sheetTrue, bytes-true); name = name; name-word = h }
 
 abbrev always : List ℕ
-always = 1 ∷ 0 ∷ 4 ∷ 3 ∷ 1 ∷ 6 ∷ 255 ∷ 0 ∷ []
+always = 1 ∷ 2 ∷ 4 ∷ 3 ∷ 1 ∷ 6 ∷ 255 ∷ 0 ∷ []
 
 abbrev possible : List ℕ
 possible = 1 ∷ 1 ∷ 4 ∷ 4 ∷ 1 ∷ 5 ∷ 255 ∷ 0 ∷ []

@@ -3,24 +3,29 @@
 use Prim.Native.Nat.{ℕ, _/_, _%_}
 use mathlib.Core.List.{List}
 use lib.Dec.{eqb}
+use lib.ListN.{getD}
 use Rattle.settle.specs.Test.{pick}
 use Rattle.refusal.specs.declared.Input.{Input}
 use Rattle.refusal.specs.declared.Input.the-variants as Input
 use Rattle.refusal.specs.declared.Refusal.{Refusal}
 use Rattle.relation.specs.declared.MatrixAnswer.{MatrixAnswer}
 use Rattle.relation.specs.declared.MatrixAnswer.the-variants as Matrices
-use Rattle.property.specs.declared.PropertyAnswer.{PropertyAnswer}
-use Rattle.property.specs.declared.PropertyAnswer.the-variants as Property
+use Rattle.solve.specs.declared.PropertyAnswer.{PropertyAnswer}
+use Rattle.solve.specs.declared.PropertyAnswer.the-variants as Property
+use Rattle.solve.specs.declared.Solved.{Solved}
+use Rattle.both_solutions.specs.declared.BothAnswer.{BothAnswer}
+use Rattle.both_solutions.specs.declared.BothAnswer.the-variants as Both
 use Rattle.lent.specs.declared.LentAnswer.{LentAnswer}
 use Rattle.lent.specs.declared.LentAnswer.the-variants.{Written, Refused}
 use Rattle.check_reasons.specs.declared.CheckAnswer.{CheckAnswer}
 use Rattle.check_reasons.specs.declared.CheckAnswer.the-variants as Checking
 use Rattle.compare.specs.declared.CompareAnswer.{CompareAnswer}
 use Rattle.compare.specs.declared.CompareAnswer.the-variants as Comparing
-use Rattle.calls.specs.Shown.{Lent, lent, PropertyShown, WrittenShown, CheckShown, CompareShown}
+use Rattle.calls.specs.Shown.{Lent, lent, PropertyShown, BothShown, WrittenShown, CheckShown, CompareShown}
 use Rattle.idle.specs.Slice.{Slice}
 use Rattle.idle.specs.Matrix as Matrix
 use Rattle.idle.specs.Property as Properties
+use Rattle.idle.specs.BothSolutions as Boths
 use Rattle.idle.specs.Written as Written
 use Rattle.idle.specs.CheckReasons as Checks
 use Rattle.idle.specs.Compare as Compare
@@ -68,6 +73,26 @@ propertyBuild call chart sheet = propertyRead (call chart sheet)
 abbrev pub MeetsProperty : ℕ → ℕ → ℕ → (Slice → Slice → PropertyLeft) → Type 0
 MeetsProperty word count rounds call = (chart sheet : Slice) → let x = call chart sheet in
     PropertyShown (chart .0) (sheet .0) (lent word (x .word)) (lent count (x .count)) (lent rounds (x .rounds)) (x .code)
+
+-- ---- both solutions
+
+pub record BothLeft : Type 0 where
+  pub code : ℕ
+  pub least : List ℕ
+  pub greatest : List ℕ
+
+abbrev pub solvedOf : List ℕ → Solved
+solvedOf numbers = record { word = getD numbers 0 0; count = getD numbers 1 0; rounds = getD numbers 2 0 }
+
+abbrev pub bothRead : BothLeft → BothAnswer
+bothRead x = pick (eqb (x .code) 0) (Both.Both (record { least = solvedOf (x .least); greatest = solvedOf (x .greatest) })) (Both.Refused (refusalOf (x .code)))
+
+abbrev pub bothBuild : (Slice → Slice → BothLeft) → Boths.Build
+bothBuild call chart sheet = bothRead (call chart sheet)
+
+-- the numbers lent for each solution, before the call; that three are lent is asked by `both-call-not-idle`
+abbrev pub MeetsBoth : List ℕ → List ℕ → (Slice → Slice → BothLeft) → Type 0
+MeetsBoth least greatest call = (chart sheet : Slice) → let x = call chart sheet in BothShown (chart .0) (sheet .0) least (x .least) greatest (x .greatest) (x .code)
 
 -- ---- bytes in a lent buffer: short form, and reasons
 

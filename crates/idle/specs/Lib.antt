@@ -1,6 +1,7 @@
 pub mod Slice
 pub mod Matrix
 pub mod Property
+pub mod BothSolutions
 pub mod Written
 pub mod ShortForm
 pub mod Compare

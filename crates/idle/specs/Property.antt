@@ -11,9 +11,9 @@ use Rattle.sheet.specs.Reading.{sheet, readSheet}
 use Rattle.sheet.specs.Solution.{applications}
 use Rattle.words.specs.Words.{member}
 use Rattle.property.specs.Promise.{PropertyPromise}
-use Rattle.property.specs.declared.Solved.{Solved}
-use Rattle.property.specs.declared.PropertyAnswer.{PropertyAnswer}
-use Rattle.property.specs.declared.PropertyAnswer.the-variants.{Satisfied, Refused}
+use Rattle.solve.specs.declared.Solved.{Solved}
+use Rattle.solve.specs.declared.PropertyAnswer.{PropertyAnswer}
+use Rattle.solve.specs.declared.PropertyAnswer.the-variants.{Satisfied, Refused}
 use Rattle.idle.specs.Slice.{Slice}
 
 abbrev pub Build : Type 0

@@ -1,2 +1,2 @@
-pub mod Solving
+pub mod SheetPromise
 pub mod Promise

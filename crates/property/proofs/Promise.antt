@@ -1,12 +1,13 @@
--- The promise: what the rounds find is what it says, it allows one answer, and never 15.
+-- The promise: what the rounds find is what it says, it allows one answer, it refuses exactly as the readers do, and never 15.
 use Prim.Native.Nat.{ℕ, _+_, _<_, _≤_}
 use mathlib.Core.Path.{_≡_, refl, ap, sym, subst, _∙_}
 use mathlib.Core.Bool.{Bool, true, false, So}
 use mathlib.Core.Logic.{_↔_}
 use mathlib.Core.List.{List}
 use native.Mathlib.Omega.{arith}
-use Rattle.settle.specs.Test.{count}
+use Rattle.settle.specs.Test.{pick, count}
 use Rattle.settle.specs.Finite.{below}
+use Rattle.settle.specs.Chain.{empty, full, chain, Rounds}
 use Rattle.settle.proofs.Test.{ext, count-cong}
 use Rattle.settle.proofs.Finite.{below-e}
 use Rattle.settle.proofs.Chain.{rounds-unique}
@@ -15,29 +16,25 @@ use Rattle.chart.specs.Chart.{Chart, states, actions}
 use Rattle.chart.specs.Layout.{Bytes, WellFormed, encode}
 use Rattle.chart.specs.Reading.{chartIn, readChart, shapeOf, Reads}
 use Rattle.chart.specs.declared.Shape.{Shape}
-use Rattle.chart.specs.declared.ChartRead.{ChartRead}
 use Rattle.chart.specs.declared.ChartRead.the-variants as Read
-use Rattle.chart.proofs.Accepted.{accepted, each-step, never-both, same-shape}
-use Rattle.chart.proofs.Exactly.{accepted-exactly as chart-accepted}
-use Rattle.chart.proofs.Refused.{refused as chart-refused-placed}
+use Rattle.chart.proofs.Accepted.{accepted}
 use Rattle.chart.proofs.Steps.{bytesAt-length}
-use Rattle.sheet.specs.Formula.{Formula, nodes}
+use Rattle.sheet.specs.Formula.{Formula}
 use Rattle.sheet.specs.Layout as SheetLayout
 use Rattle.sheet.specs.Meaning.{holds}
-use Rattle.sheet.specs.Reading.{Sheet, sheet, refused, readSheet}
-use Rattle.sheet.specs.Solution.{asksLeast, applied, SolutionBy, applications}
-use Rattle.sheet.proofs.Accepted.{accepted-exactly as sheet-accepted, refusal-small}
-use Rattle.sheet.proofs.Found.{number-few}
+use Rattle.sheet.specs.Solution.{asksLeast, applied, SolutionBy, Satisfies, applications}
 use Rattle.sheet.proofs.Meaning.{TargetsBelow}
-use Rattle.sheet.proofs.Solution.{targets-below, sheet-rounds, sheet-rounds-le, satisfies-iff}
+use Rattle.sheet.proofs.Solution.{read-targets, sheet-rounds, sheet-rounds-le, satisfies-iff}
 use Rattle.words.specs.Words.{member}
 use Rattle.words.proofs.Words.{word-lt, word-member, word-ext, word-cong}
 use Rattle.steps.specs.Table.{ReadAs}
-use Rattle.property.specs.Solving.{firstSet, Reached, Solves}
+use Rattle.solve.specs.Solving.{firstSet, Reached, Solves}
+use Rattle.solve.proofs.Determined.{same-solved}
+use Rattle.solve.specs.declared.Solved.{Solved}
+use Rattle.solve.specs.declared.PropertyAnswer.{PropertyAnswer}
+use Rattle.solve.specs.declared.PropertyAnswer.the-variants.{Satisfied, Refused}
 use Rattle.property.specs.Promise.{Solution, Unsettled, Answers, PropertyPromise}
-use Rattle.property.specs.declared.Solved.{Solved}
-use Rattle.property.specs.declared.PropertyAnswer.{PropertyAnswer}
-use Rattle.property.specs.declared.PropertyAnswer.the-variants.{Satisfied, Refused}
+use Rattle.property.proofs.SheetPromise.{Unread, unread-not-15, refused-exactly, determined, same-steps, layout-answers}
 
 -- ---- what the rounds find
 
@@ -64,58 +61,31 @@ pub answers : (s : List ℕ) (sh : Shape) (kind : ℕ) (f : Formula) (r : Proper
 answers s sh kind f r e R =
     let n = bytesAt-length s 1 (sh .n) in
     let m = bytesAt-length s (2 + sh .n) (sh .m) in
-    answered (chartIn s sh) (rw n (λ u i. each-step s sh e u i .target-in)) kind f r (rw (n, m) R)
-
--- ---- the three cases
-
-module _ (chart bytes : List ℕ) where
-  pub promise-chart-refused : (r : Refusal) → readChart chart ≡ Read.Refused r → PropertyPromise chart bytes (Refused r)
-  promise-chart-refused r e = record {
-    chart-refused = λ r′ h. (let z : r ≡ r′ = cc in ap Refused z);
-    sheet-refused = λ sh r′ h k. never-both h e;
-    both-accepted = λ sh kind nodes f h k. never-both h e;
-  }
-
-  pub promise-sheet-refused : (sh : Shape) (r : Refusal) → readChart chart ≡ Read.Chart sh → readSheet bytes (sh .m) ≡ refused r → PropertyPromise chart bytes (Refused r)
-  promise-sheet-refused sh r e d = record {
-    chart-refused = λ r′ h. never-both e h;
-    sheet-refused = λ sh′ r′ h k. (let z : r ≡ r′ = cc in ap Refused z);
-    both-accepted = λ sh′ kind nodes f h k. (let z : _≡_ {A = ℕ} 0 1 = cc in absurd (omega arith));
-  }
-
-  pub promise-accepted : (sh : Shape) (kind nodes : ℕ) (f : Formula) (answer : PropertyAnswer) → readChart chart ≡ Read.Chart sh → readSheet bytes (sh .m) ≡ sheet kind nodes f
-      → Answers (chartIn chart sh) kind f answer → PropertyPromise chart bytes answer
-  promise-accepted sh kind nodes f answer e d a = record {
-    chart-refused = λ r h. never-both e h;
-    sheet-refused = λ sh′ r h k. (let z : _≡_ {A = ℕ} 0 1 = cc in absurd (omega arith));
-    both-accepted = λ sh′ kind′ nodes′ f′ h k. (
-        let x : sh ≡ sh′ = cc in
-        let y : kind ≡ kind′ = cc in
-        let z : f ≡ f′ = cc in
-        rw (x, y, z) at a);
-  }
+    answered (chartIn s sh) (read-targets s sh e) kind f r (rw (n, m) R)
 
 -- ---- the promise allows one answer
 
+-- where the same states satisfy two sheets, the words are equal
+pub same-word : (c : Chart) (kind other : ℕ) (f : Formula) (a b : Solved) → Solution c kind f a → Solution c other f b
+    → ((s : ℕ) → s < states c → Satisfies c kind f s ↔ Satisfies c other f s) → a .word ≡ b .word
+same-word c kind other f a b A B same =
+    sym (word-ext (states c) (a .word) (A .no-bit-above))
+    ∙ word-cong (states c) _ _ (λ s h. ext (λ t. B .bit-exactly s h .1 (same s h .0 (A .bit-exactly s h .0 t))) (λ t. A .bit-exactly s h .1 (same s h .1 (B .bit-exactly s h .0 t))))
+    ∙ word-ext (states c) (b .word) (B .no-bit-above)
+
 module _ (c : Chart) (kind : ℕ) (f : Formula) where
   -- bits, none above, count and rounds leave one solution
-  solution-unique : (a b : Solved) → Solution c kind f a → Solution c kind f b → a ≡ b
-  solution-unique a b A B = solved words counts rounds
+  pub solution-unique : (a b : Solved) → Solution c kind f a → Solution c kind f b → a ≡ b
+  solution-unique a b A B = same-solved words counts rounds
     where
       words : a .word ≡ b .word
-      words =
-          sym (word-ext (states c) (a .word) (A .no-bit-above))
-          ∙ word-cong (states c) _ _ (λ s h. ext (λ t. B .bit-exactly s h .1 (A .bit-exactly s h .0 t)) (λ t. A .bit-exactly s h .1 (B .bit-exactly s h .0 t)))
-          ∙ word-ext (states c) (b .word) (B .no-bit-above)
+      words = same-word c kind kind f a b A B (λ s h. (λ x. x, λ x. x))
 
       counts : a .count ≡ b .count
       counts = A .count-is ∙ ap (λ (w : ℕ). count (member w) (below (states c))) words ∙ sym (B .count-is)
 
       rounds : a .rounds ≡ b .rounds
       rounds = rounds-unique (below (states c)) (applications c kind f) (a .rounds) (b .rounds) (A .rounds-least) (B .rounds-least)
-
-      solved : {w v c d j k : ℕ} → w ≡ v → c ≡ d → j ≡ k → _≡_ {A = Solved} (record { word = w; count = c; rounds = j }) (record { word = v; count = d; rounds = k })
-      solved p q r = cc
 
   -- with at most 4,096 states, the rounds that there are shut out 15
   solution-not-unsettled : {A : Type 0} (a : Solved) (r : Refusal) → states c ≤ 4096 → Solution c kind f a → Unsettled c kind f r → A
@@ -131,15 +101,18 @@ states-few : (s : List ℕ) (sh : Shape) → readChart s ≡ Read.Chart sh → s
 states-few s sh e = omega (arith, bytesAt-length s 1 (sh .n), accepted s sh e .states-few)
 
 pub property-determined : (chart bytes : List ℕ) (x y : PropertyAnswer) → PropertyPromise chart bytes x → PropertyPromise chart bytes y → x ≡ y
-property-determined chart bytes x y X Y = by-chart (readChart chart) refl
-  where
-    by-sheet : (sh : Shape) → readChart chart ≡ Read.Chart sh → (u : Sheet) → readSheet bytes (sh .m) ≡ u → x ≡ y
-    by-sheet sh e (refused r) d = X .sheet-refused sh r e d ∙ sym (Y .sheet-refused sh r e d)
-    by-sheet sh e (sheet kind nodes f) d = answers-unique (chartIn chart sh) kind f x y (states-few chart sh e) (X .both-accepted sh kind nodes f e d) (Y .both-accepted sh kind nodes f e d)
+property-determined chart bytes = determined chart bytes (λ sh e kind f x y. answers-unique (chartIn chart sh) kind f x y (states-few chart sh e))
 
-    by-chart : (u : ChartRead) → readChart chart ≡ u → x ≡ y
-    by-chart (Read.Refused r) e = X .chart-refused r e ∙ sym (Y .chart-refused r e)
-    by-chart (Read.Chart sh) e = by-sheet sh e (readSheet bytes (sh .m)) refl
+-- ---- of kinds that ask for the same solution the same is promised
+
+pub same-kind : (c : Chart) (kind other : ℕ) (f : Formula) (a : Solved) → asksLeast kind ≡ asksLeast other → Solution c kind f a → Solution c other f a
+same-kind c kind other f a e S = record {
+  bit-exactly = λ s h. subst (λ (least : Bool). So (member (a .word) s) ↔ SolutionBy least c f s) e (S .bit-exactly s h);
+  no-bit-above = S .no-bit-above;
+  count-is = S .count-is;
+  rounds-least = subst (λ (least : Bool). Rounds (below (states c)) (chain (applied c f) (pick least empty full)) (a .rounds)) e (S .rounds-least);
+  rounds-few = S .rounds-few;
+}
 
 -- ---- codes are for display only: of two charts with the same steps the same is promised
 
@@ -148,7 +121,7 @@ module _ (c d : Chart) (n : states d ≡ states c) (m : actions d ≡ actions c)
   same-solutions true s = rw (n, m, steps)
   same-solutions false s = rw (n, m, steps)
 
-  same-answers : (x : PropertyAnswer) → Answers c kind f x → Answers d kind f x
+  pub same-answers : (x : PropertyAnswer) → Answers c kind f x → Answers d kind f x
   same-answers (Satisfied a) S = record {
     bit-exactly = λ s h. subst (λ (X : Type 0). So (member (a .word) s) ↔ X) (same-solutions (asksLeast kind) s) (S .bit-exactly s (rw n at h));
     no-bit-above = rw n (S .no-bit-above);
@@ -160,42 +133,27 @@ module _ (c d : Chart) (n : states d ≡ states c) (m : actions d ≡ actions c)
 
 pub codes-not-asked : (a b bytes : List ℕ) (sh : Shape) → readChart a ≡ Read.Chart sh → readChart b ≡ Read.Chart sh → chartIn a sh .steps ≡ chartIn b sh .steps
     → (answer : PropertyAnswer) → PropertyPromise a bytes answer → PropertyPromise b bytes answer
-codes-not-asked a b bytes sh read also same answer P = record {
-  chart-refused = λ r h. never-both also h;
-  sheet-refused = λ u r h k. P .sheet-refused sh r read (rw (same-shape also h) k);
-  both-accepted = λ u kind nodes f h k. rw (← same-shape also h)
-      (same-answers (chartIn a sh) (chartIn b sh) (bytesAt-length b 1 (sh .n) ∙ sym (bytesAt-length a 1 (sh .n)))
-      (bytesAt-length b (2 + sh .n) (sh .m) ∙ sym (bytesAt-length a (2 + sh .n) (sh .m))) (sym same) kind f answer (P .both-accepted sh kind nodes f read (rw (same-shape also h) k)));
-}
+codes-not-asked = same-steps same-answers
 
--- ---- the promise never allows 15
+-- ---- an accepted chart and sheet are never refused, so the promise never allows 15
+
+pub never-unsettled : (chart : List ℕ) (sh : Shape) → readChart chart ≡ Read.Chart sh → (kind : ℕ) (f : Formula) (r : Refusal) → Unsettled (chartIn chart sh) kind f r → ⊥
+never-unsettled chart sh h kind f r U =
+    let k = sheet-rounds (chartIn chart sh) (read-targets chart sh h) f kind in
+    U .none-settled (k .0) (omega (arith, k .1, states-few chart sh h)) (k .2 .0)
+
+pub property-refused-exactly : (chart bytes : List ℕ) (r : Refusal) → PropertyPromise chart bytes (Refused r) ↔ Unread chart bytes r
+property-refused-exactly chart bytes = refused-exactly chart bytes (λ r q e. cc) (never-unsettled chart)
 
 pub never-15 : (chart bytes : List ℕ) (r : Refusal) → PropertyPromise chart bytes (Refused r) → r .number ≡ 15 → ⊥
-never-15 chart bytes r P e = by-chart (readChart chart) refl
-  where
-    by-sheet : (sh : Shape) → readChart chart ≡ Read.Chart sh → (u : Sheet) → readSheet bytes (sh .m) ≡ u → ⊥
-    by-sheet sh h (refused q) d = let z : r ≡ q = cc (P .sheet-refused sh q h d) in omega (arith, number-few (refusal-small bytes (sh .m) q d), ap (λ (x : Refusal). x .number) z)
-    by-sheet sh h (sheet kind nodes f) d =
-        let U = P .both-accepted sh kind nodes f h d in
-        let n = bytesAt-length chart 1 (sh .n) in
-        let k = sheet-rounds (chartIn chart sh) (rw n (λ u i. each-step chart sh h u i .target-in)) f kind in
-        U .none-settled (k .0) (omega (arith, k .1, states-few chart sh h)) (k .2 .0)
-
-    by-chart : (u : ChartRead) → readChart chart ≡ u → ⊥
-    by-chart (Read.Refused q) h = let z : r ≡ q = cc (P .chart-refused q h) in omega (arith, chart-refused-placed chart q h .number-few, ap (λ (x : Refusal). x .number) z)
-    by-chart (Read.Chart sh) h = by-sheet sh h (readSheet bytes (sh .m)) refl
+never-15 chart bytes r P = unread-not-15 chart bytes r (property-refused-exactly chart bytes r .0 P)
 
 -- ---- in the layout's terms: every chart and every sheet that follow it are answered
 
 pub layout-answered : (chart : List ℕ) → Bytes chart → (c : Chart) (kind : ℕ) (f : Formula) → chart ≡ encode c → WellFormed c → SheetLayout.WellFormed (actions c) kind f
     → (answer : PropertyAnswer) → PropertyPromise chart (SheetLayout.encode kind f) answer → (a : Solved) × (answer ≡ Satisfied a) × Solution c kind f a
-layout-answered chart B c kind f e w v answer P = go answer (rw (read .1) at (P .both-accepted (shapeOf c) kind (nodes f) f (read .0) (sheet-accepted (SheetLayout.encode kind f) (actions c) (w .actions-few) kind f .1 (refl, v))))
+layout-answered chart B c kind f e w v answer P = let (read, A) = layout-answers chart B c kind f e w v answer P in go answer read A
   where
-    read : Reads chart c
-    read = chart-accepted chart B c .1 (e, w)
-
-    go : (x : PropertyAnswer) → Answers c kind f x → (a : Solved) × (x ≡ Satisfied a) × Solution c kind f a
-    go (Satisfied a) A = (a, refl, A)
-    go (Refused r) A =
-        let k = sheet-rounds c (targets-below c w) f kind in
-        absurd (A .none-settled (k .0) (omega (arith, k .1, w .states-few)) (k .2 .0))
+    go : (x : PropertyAnswer) → Reads chart c → Answers (chartIn chart (shapeOf c)) kind f x → (a : Solved) × (x ≡ Satisfied a) × Solution c kind f a
+    go (Satisfied a) read A = (a, refl, rw (read .1) at A)
+    go (Refused r) read A = absurd (never-unsettled chart (shapeOf c) (read .0) kind f r A)

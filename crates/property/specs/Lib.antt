@@ -1,2 +1,2 @@
+pub mod SheetPromise
 pub mod Promise
-pub mod Solving

@@ -10,16 +10,13 @@ use Rattle.settle.specs.Chain.{Settled}
 use Rattle.refusal.specs.Refusal.{lentRefusal}
 use Rattle.refusal.specs.declared.Refusal.{Refusal}
 use Rattle.chart.specs.Chart.{Chart, states}
-use Rattle.chart.specs.Reading.{readChart, chartIn}
-use Rattle.chart.specs.declared.Shape.{Shape}
-use Rattle.chart.specs.declared.ChartRead.the-variants as Read
 use Rattle.sheet.specs.Formula.{Formula}
-use Rattle.sheet.specs.Reading.{sheet, refused, readSheet}
 use Rattle.sheet.specs.Solution.{Satisfies, SheetRounds, applications}
 use Rattle.words.specs.Words.{member}
-use Rattle.property.specs.declared.Solved.{Solved}
-use Rattle.property.specs.declared.PropertyAnswer.{PropertyAnswer}
-use Rattle.property.specs.declared.PropertyAnswer.the-variants.{Satisfied, Refused}
+use Rattle.solve.specs.declared.Solved.{Solved}
+use Rattle.solve.specs.declared.PropertyAnswer.{PropertyAnswer}
+use Rattle.solve.specs.declared.PropertyAnswer.the-variants.{Satisfied, Refused}
+use Rattle.property.specs.SheetPromise.{SheetPromise}
 
 -- the word has a bit for exactly the states that satisfy the sheet, the count is how many they are, the rounds are the least k such that k
 -- applications equal k + 1
@@ -39,9 +36,5 @@ abbrev pub Answers : Chart → ℕ → Formula → PropertyAnswer → Type 0
 Answers c kind f (Satisfied a) = Solution c kind f a
 Answers c kind f (Refused r) = Unsettled c kind f r
 
--- refused as the readers refuse, the chart before the sheet; where both are accepted, answered
-pub record PropertyPromise (chart bytes : List ℕ) (answer : PropertyAnswer) : Type 0 where
-  pub chart-refused : (r : Refusal) → readChart chart ≡ Read.Refused r → answer ≡ Refused r
-  pub sheet-refused : (sh : Shape) (r : Refusal) → readChart chart ≡ Read.Chart sh → readSheet bytes (sh .m) ≡ refused r → answer ≡ Refused r
-  pub both-accepted : (sh : Shape) (kind nodes : ℕ) (f : Formula) → readChart chart ≡ Read.Chart sh → readSheet bytes (sh .m) ≡ sheet kind nodes f
-      → Answers (chartIn chart sh) kind f answer
+abbrev pub PropertyPromise : List ℕ → List ℕ → PropertyAnswer → Type 0
+PropertyPromise = SheetPromise Refused Answers

@@ -1,9 +1,11 @@
 // Document 01's boards and edges on the questions, and worked examples of the source documents: what is printed is held to the file stdout.
+use both_solutions::BothAnswer;
 use lent::LentAnswer;
 use libc::STDOUT_FILENO;
-use property::PropertyAnswer;
 use refusal::Refusal;
 use relation::MatrixAnswer;
+use solve::PropertyAnswer;
+use solve::Solved;
 
 fn say(words: &[u8]) {
     io::write_all(STDOUT_FILENO, words);
@@ -24,17 +26,31 @@ fn refused(r: Refusal) {
     say(b"\n");
 }
 
+fn show_solved(solved: Solved) {
+    say(b"word, states, rounds:");
+    number(solved.word);
+    number(solved.count as u64);
+    number(solved.rounds as u64);
+    say(b"\n");
+}
+
 fn show_property(chart: &[u8], sheet: &[u8]) {
     let answer = property::property(chart, sheet);
     match answer {
-        PropertyAnswer::Satisfied(solved) => {
-            say(b"word, states, rounds:");
-            number(solved.word);
-            number(solved.count as u64);
-            number(solved.rounds as u64);
-            say(b"\n");
-        }
+        PropertyAnswer::Satisfied(solved) => show_solved(solved),
         PropertyAnswer::Refused(r) => refused(r),
+    }
+}
+
+// The least solution, then the greatest.
+fn show_both(chart: &[u8], sheet: &[u8]) {
+    let answer = both_solutions::both_solutions(chart, sheet);
+    match answer {
+        BothAnswer::Both(solutions) => {
+            show_solved(solutions.least);
+            show_solved(solutions.greatest);
+        }
+        BothAnswer::Refused(r) => refused(r),
     }
 }
 
@@ -93,6 +109,13 @@ fn properties(e: &[u8], l: &[u8]) {
     say(b"the chart's refusal before the sheet's; then the sheet's\n");
     show_property(b"\x00", b"\x00");
     show_property(l, b"\x00");
+    say(
+        b"both solutions of L's two formulas, least first, unsaid and greatest; the chart's refusal; the sheet's\n",
+    );
+    show_both(l, b"\x01\x00\x05\x04\x06\x00\x02\x05\x00\x00");
+    show_both(l, b"\x01\x02\x05\x03\x05\x00\x01\x06\x00\x00");
+    show_both(b"\x00", b"\x00");
+    show_both(l, b"\x00");
 }
 
 fn all_marks(e: &[u8], l: &[u8]) {

@@ -169,3 +169,8 @@ module _ {A : Type 0} where
 
     pub greatest-rounds-in : (W : A → Bool) → ((x : A) → Mem x xs → So (W x) ⊎ ((k : ℕ) → So (chain F full k x))) → (k : ℕ) × (k ≤ count W xs) × Rounds xs (chain F full) k
     greatest-rounds-in W o = rounds-down xs W (chain F full) down (λ k x m t. ⊎-elim (λ w. inr w) (λ f. inl (f (suc k))) (o x m))
+
+    -- the least solution lies inside the greatest
+    pub least-in-greatest : (x : A) → Mem x xs → LeastSolution xs F x → GreatestSolution xs F x
+    unfolding chain
+    least-in-greatest x m f = let r = least-rounds in (chain F empty (r .0), up (r .0), least-solution (r .0) (r .2 .0) x m .1 f)

@@ -189,6 +189,17 @@ module _ {A : Type 0} where
   count-cong p q [] e = refl
   count-cong p q (x ∷ xs) e = rw (e x (here refl), count-cong p q xs (λ y m. e y (there m)))
 
+  pub count-inside : (p q : A → Bool) (xs : List A) → ((x : A) → Mem x xs → So (p x) → So (q x)) → count p xs ≤ count q xs
+  unfolding count
+  count-inside p q [] f = omega arith
+  count-inside p q (x ∷ xs) f = go (p x) (q x) (f x (here refl)) (count-inside p q xs (λ y m. f y (there m)))
+    where
+      go : (b d : Bool) → (So b → So d) → count p xs ≤ count q xs → tick b (count p xs) ≤ tick d (count q xs)
+      go true true g h = omega arith
+      go true false g h = never (g refl)
+      go false true g h = omega arith
+      go false false g h = omega arith
+
   pub count-length : (p : A → Bool) (xs : List A) → count p xs ≤ length xs
   unfolding count
   count-length p [] = omega arith

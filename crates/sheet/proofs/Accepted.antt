@@ -10,6 +10,7 @@ use Rattle.refusal.specs.declared.Refusal.{Refusal}
 use Rattle.chart.proofs.Steps.{byte-then}
 use Rattle.sheet.specs.Formula.{Formula, nodes}
 use Rattle.sheet.specs.Layout.{formulaBytes, encode, longestSheet, WellFormed}
+use Rattle.sheet.specs.WithKind.{withKind}
 use Rattle.sheet.specs.Reading.{parsed, parse, Sheet, sheet, refused, readNodes, readSheet, sheetRead, AcceptedExactly}
 use Rattle.sheet.specs.declared.Outline.{Outline}
 use Rattle.sheet.specs.declared.SheetRead.{SheetRead}
@@ -126,6 +127,15 @@ accepted-exactly s m few kind f = (
   λ e. let q = layout-read s m kind (nodes f) f e in (q .0, q .1),
   λ q. ap (λ s. readSheet s m) (q .0) ∙ layout-written m few kind f (q .1),
 )
+
+-- an accepted sheet stays one with another kind, and its formula stays
+pub read-with-kind : (s : List ℕ) (m : ℕ) → m ≤ 32 → (kind count : ℕ) (f : Formula) → readSheet s m ≡ sheet kind count f
+    → (other : ℕ) → other ≤ 2 → readSheet (withKind other s) m ≡ sheet other count f
+unfolding encode
+read-with-kind s m few kind count f e other known =
+    let q = layout-read s m kind count f e in
+    let w : WellFormed m other f = record { kind-known = known; nodes-few = q .1 .nodes-few; labels-in = q .1 .labels-in } in
+    rw (q .0, q .2) (layout-written m few other f w)
 
 pub read-count : (s : List ℕ) (m kind count : ℕ) (f : Formula) → readSheet s m ≡ sheet kind count f → count ≡ nodes f
 read-count s m kind count f e = layout-read s m kind count f e .2

@@ -5,4 +5,5 @@ pub mod Meaning
 pub mod Parsing
 pub mod Reading
 pub mod Solution
+pub mod Before
 pub mod Written

@@ -1,6 +1,6 @@
 -- What makes each clause of a formula's meaning true, and what follows where it is; a formula's meaning is monotone in the set that stands for the
 -- variable; 'every action' is 'any step at all'; box holds where there is no such step. Assumes nothing.
-use mathlib.Core.Path.{_≡_, refl}
+use mathlib.Core.Path.{_≡_, refl, ap, fun-ext}
 use mathlib.Core.Bool.{Bool, true, false, So}
 use mathlib.Core.List.{List, List·Memᴰ as Mem}
 use mathlib.Core.Logic.{inl, inr}
@@ -10,11 +10,11 @@ use borrow.Author.Tests.{eqb-true, eq-eqb}
 use Rattle.settle.specs.Test.{some, each, anyOf, allOf}
 use Rattle.settle.specs.Finite.{below}
 use Rattle.settle.specs.Chain.{Monotone}
-use Rattle.settle.proofs.Test.{ext, both-i, both-e, either-l, either-r, either-e, any-i, any-e, all-i, all-e, some-i, some-e, each-i, each-e}
+use Rattle.settle.proofs.Test.{never, ext, both-i, both-e, either-l, either-r, either-e, any-i, any-e, all-i, all-e, some-i, some-e, each-i, each-e}
 use Rattle.settle.proofs.Finite.{below-i, below-e}
 use Rattle.settle.proofs.Chain.{applied-same}
 use Rattle.chart.specs.Chart.{Step}
-use Rattle.sheet.specs.Formula.{Label, only, every, Formula, variable, top, bottom, and, or, diamond, box}
+use Rattle.sheet.specs.Formula.{Label, only, every, Formula, variable, top, bottom, and, or, diamond, box, variableFree}
 use Rattle.sheet.specs.Meaning.{leaves, someStep, everyStep, someLabel, everyLabel, holds}
 
 -- every step leads to a state below n
@@ -119,3 +119,14 @@ module _ (m n : ℕ) (steps : List Step) (targets : TargetsBelow n steps) where
   -- it depends on no state but those below n
   pub holds-same : (f : Formula) (T U : ℕ → Bool) → ((s : ℕ) → s < n → T s ≡ U s) → (s : ℕ) → s < n → holds m steps f T s ≡ holds m steps f U s
   holds-same f T U e s h = applied-same (below n) (holds m steps f) (holds-monotone f) T U (λ x b. e x (below-e n x b)) s (below-i n s h)
+
+-- a formula without variable means the same whatever set stands for the variable
+pub free-same : (m : ℕ) (steps : List Step) (f : Formula) → So (variableFree f) → (T U : ℕ → Bool) (s : ℕ) → holds m steps f T s ≡ holds m steps f U s
+unfolding holds variableFree
+free-same m steps variable v T U s = never v
+free-same m steps top v T U s = refl
+free-same m steps bottom v T U s = refl
+free-same m steps (and f g) v T U s = let e = both-e _ _ v in rw (free-same m steps f (e .0) T U s, free-same m steps g (e .1) T U s)
+free-same m steps (or f g) v T U s = let e = both-e _ _ v in rw (free-same m steps f (e .0) T U s, free-same m steps g (e .1) T U s)
+free-same m steps (diamond l f) v T U s = ap (λ (P : ℕ → Bool). someLabel m steps l P s) (fun-ext (free-same m steps f v T U))
+free-same m steps (box l f) v T U s = ap (λ (P : ℕ → Bool). everyLabel m steps l P s) (fun-ext (free-same m steps f v T U))

@@ -1,7 +1,7 @@
 -- The solution of a sheet's equation X = F(X) in a chart, and the rounds in which it is found.
 use Prim.Native.Nat.{ℕ}
 use mathlib.Core.Bool.{Bool, true, false}
-use lib.Dec.{eqb}
+use lib.Dec.{ltb}
 use Rattle.settle.specs.Finite.{below}
 use Rattle.settle.specs.Chain.{empty, full, chain, LeastSolution, GreatestSolution, Rounds}
 use Rattle.settle.specs.Test.{pick}
@@ -9,9 +9,9 @@ use Rattle.chart.specs.Chart.{Chart, states, actions}
 use Rattle.sheet.specs.Formula.{Formula}
 use Rattle.sheet.specs.Meaning.{holds}
 
--- 1 least, 2 greatest, and 0, unsaid, is read as greatest
+-- 1 least, 2 greatest, and 0, unsaid, is read as least (document 02, T-06)
 abbrev pub asksLeast : ℕ → Bool
-asksLeast kind = eqb kind 1
+asksLeast kind = ltb kind 2
 
 -- F(T): the states where the formula holds, with T standing for the variable
 abbrev pub applied : Chart → Formula → (ℕ → Bool) → ℕ → Bool

@@ -6,3 +6,4 @@ pub mod Rest
 pub mod Room
 pub mod Scan
 pub mod Written
+pub mod Before

@@ -1,5 +1,5 @@
 -- What the short forms mean, in 001's words. Assumes nothing.
-use mathlib.Core.Path.{_≡_, refl, sym, ap, subst, fun-ext, _∙_}
+use mathlib.Core.Path.{_≡_, refl, sym, subst, _∙_}
 use mathlib.Core.Bool.{Bool, So}
 use mathlib.Core.List.{List, List·Memᴰ as Mem}
 use mathlib.Core.Logic.{inl, inr, _↔_}
@@ -13,24 +13,13 @@ use Rattle.settle.proofs.Test.{never, stable, both-i, both-e, both-n, either-l,
 use Rattle.settle.proofs.Finite.{below-i}
 use Rattle.chart.specs.Chart.{Step, Chart, states, actions}
 use Rattle.chart.specs.Layout.{StepIn}
-use Rattle.sheet.specs.Formula.{every, Formula, variable, top, bottom, and, or, diamond, box, variableFree}
+use Rattle.sheet.specs.Formula.{every, Formula, variableFree}
 use Rattle.sheet.specs.Meaning.{someLabel, everyLabel, holds}
 use Rattle.sheet.specs.Solution.{applied, Satisfies, applications}
-use Rattle.sheet.proofs.Meaning.{some-every, every-every}
+use Rattle.sheet.proofs.Meaning.{some-every, every-every, free-same}
 use Rattle.sheet.proofs.Solution.{sheet-rounds, satisfies-iff}
 use Rattle.short_form.specs.ShortForm.{always, possible, safePath, eventually, kindWritten}
 use Rattle.short_form.specs.Reachable.{Reachable, stay, onward, Goes, Run}
-
--- a formula without variable means the same whatever set stands for the variable
-free-same : (m : ℕ) (steps : List Step) (f : Formula) → So (variableFree f) → (T U : ℕ → Bool) (s : ℕ) → holds m steps f T s ≡ holds m steps f U s
-unfolding holds variableFree
-free-same m steps variable v T U s = never v
-free-same m steps top v T U s = refl
-free-same m steps bottom v T U s = refl
-free-same m steps (and f g) v T U s = let e = both-e _ _ v in rw (free-same m steps f (e .0) T U s, free-same m steps g (e .1) T U s)
-free-same m steps (or f g) v T U s = let e = both-e _ _ v in rw (free-same m steps f (e .0) T U s, free-same m steps g (e .1) T U s)
-free-same m steps (diamond l f) v T U s = ap (λ (P : ℕ → Bool). someLabel m steps l P s) (fun-ext (free-same m steps f v T U))
-free-same m steps (box l f) v T U s = ap (λ (P : ℕ → Bool). everyLabel m steps l P s) (fun-ext (free-same m steps f v T U))
 
 -- where each kept state has a next, there is a run through kept states
 module _ (steps : List Step) (Kept : ℕ → Type 0) (next : (u : ℕ) → Kept u → (v : ℕ) × Kept v × Goes steps u v) (s : ℕ) (kept : Kept s) where

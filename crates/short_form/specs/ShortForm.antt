@@ -1,5 +1,5 @@
--- Document 01's four short forms, name 3 as document 02 has it (T-05): the kind and the formula of the sheet that is written, for F without
--- variable and a name.
+-- Document 01's four short forms, name 3 as document 02 has it (T-05), and the kinds too (T-06): the kind and the formula of the sheet that is
+-- written, for F without variable and a name.
 use Prim.Native.Nat.{ℕ}
 use lib.Dec.{eqb}
 use Rattle.settle.specs.Test.{pick}
@@ -26,4 +26,4 @@ abbrev pub shortForm : ℕ → Formula → Formula
 shortForm name f = byName name (always f) (possible f) (safePath f) (eventually f)
 
 abbrev pub kindWritten : ℕ → ℕ
-kindWritten name = byName name 0 1 0 1
+kindWritten name = byName name 2 1 2 1

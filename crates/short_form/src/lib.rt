@@ -1,4 +1,4 @@
-// The sheet of a short form: document 01's table of four, with name 3 by T-05, for F without variable and a name.
+// The sheet of a short form: document 01's table of four, with name 3 by T-05 and the kinds by T-06, for F without variable and a name.
 use chart::ChartRead;
 use lent::LentAnswer;
 use sheet::SheetRead;
@@ -75,7 +75,7 @@ fn by_name(name: u64, always: u8, possible: u8, path: u8, eventually: u8) -> u8
 fn kind_written(name: u64) -> u8
     ensures { λ r. ⌜ r ≡ kindWritten name ⌝ }
 {
-    by_name(name, 0, 1, 0, 1)
+    by_name(name, 2, 1, 2, 1)
 }
 
 // The and or the or that the form begins with.

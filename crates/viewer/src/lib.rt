@@ -1,15 +1,17 @@
 // The questions for the C viewer, on byte slices and numbers. Each call answers 0, or the refusal as number | input << 8 | place << 16
 // | byte << 48; the lent numbers and bytes are written only where it answers 0.
+use both_solutions::BothAnswer;
 use check_reasons::CheckAnswer;
 use compare::CompareAnswer;
 use lent::LentAnswer;
-use property::PropertyAnswer;
 use refusal::Refusal;
 use relation::MatrixAnswer;
+use solve::PropertyAnswer;
+use solve::Solved;
 ghost use mathlib.Core.Path.{_≡_};
 ghost use Prim.Native.Nat.{_≤_};
 ghost use Rattle.calls.specs.Packing.{packed};
-ghost use Rattle.calls.specs.Shown.{lent, CheckShown, CompareShown, MarksShown, PropertyShown, ReasonsShown, ShortFormShown, SimulationShown};
+ghost use Rattle.calls.specs.Shown.{lent, solvedIn, BothShown, CheckShown, CompareShown, MarksShown, PropertyShown, ReasonsShown, ShortFormShown, SimulationShown};
 
 // The refusal in one number. Its parts are small: a place is at most 3,172 in a chart, 403 in a sheet and 4,032 in a list,
 // a byte at most 2.
@@ -86,6 +88,36 @@ pub extern "C" fn rebatelion_property(
             0
         }
         PropertyAnswer::Refused(r) => pack(r),
+    }
+}
+
+// The word, the count and the rounds of a solution.
+fn put_solved(numbers: &mut [u64; 3], solved: Solved)
+    ensures { λ _. ⌜ now (numbers .exit) ≡ solvedIn (now (numbers .entry)) solved ⌝ }
+{
+    numbers[0] = solved.word;
+    numbers[1] = solved.count as u64;
+    numbers[2] = solved.rounds as u64;
+}
+
+// Both solutions of the sheet, whatever its kind says: word, count and rounds of the least, and of the greatest.
+#[no_mangle]
+pub extern "C" fn rebatelion_both_solutions(
+    chart: &[u8],
+    sheet: &[u8],
+    least: &mut [u64; 3],
+    greatest: &mut [u64; 3],
+) -> u64
+    ensures { λ r. ⌜ BothShown (now (chart .entry)) (now (sheet .entry)) (now (least .entry)) (now (least .exit)) (now (greatest .entry)) (now (greatest .exit)) r ⌝ }
+{
+    let answer = both_solutions::both_solutions(chart, sheet);
+    match answer {
+        BothAnswer::Both(solutions) => {
+            put_solved(least, solutions.least);
+            put_solved(greatest, solutions.greatest);
+            0
+        }
+        BothAnswer::Refused(r) => pack(r),
     }
 }
 

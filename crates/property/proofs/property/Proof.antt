@@ -2,7 +2,8 @@ use mathlib.Core.Path.{sym, _∙_}
 use borrow.Author.Needs.{needs}
 use Rattle.sheet.proofs.Accepted.{formed, refused-exactly, accepted-short}
 use Rattle.steps.specs.Table.{ReadAs}
-use Rattle.property.proofs.Promise.{answers, promise-chart-refused, promise-sheet-refused, promise-accepted}
+use Rattle.property.proofs.SheetPromise.{promise-chart-refused, promise-sheet-refused, promise-accepted}
+use Rattle.property.proofs.Promise.{answers}
 use Rattle.property.proofs.property.Statement.{statement}
 use Rattle.property.proofs.property.Tie as tie
 

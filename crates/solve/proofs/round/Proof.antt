@@ -1,8 +1,8 @@
 use native.Mathlib.Omega.{arith}
 use borrow.Author.Needs.{needs}
 use Rattle.evaluate.proofs.Evaluating.{unpacked}
-use Rattle.property.proofs.round.Statement.{statement}
-use Rattle.property.proofs.round.Tie as tie
+use Rattle.solve.proofs.round.Statement.{statement}
+use Rattle.solve.proofs.round.Tie as tie
 
 mul-next : tie.Need-mul-next
 mul-next c = search needs

@@ -2,9 +2,9 @@ use native.Mathlib.Omega.{arith}
 use borrow.Author.Needs.{needs}
 use Rattle.chart.proofs.Accepted.{accepted}
 use Rattle.steps.proofs.Filling.{blank}
-use Rattle.property.proofs.Solving.{work-few}
-use Rattle.property.proofs.solve_in_room.Statement.{statement}
-use Rattle.property.proofs.solve_in_room.Tie as tie
+use Rattle.solve.proofs.Solving.{work-few}
+use Rattle.solve.proofs.solve_in_room.Statement.{statement}
+use Rattle.solve.proofs.solve_in_room.Tie as tie
 
 add-size : tie.Need-add-size
 add-size c = omega (arith, accepted _ _ (c .before .before .before .pre .0) .actions-few)

@@ -10,10 +10,10 @@ use Rattle.sheet.specs.Reading.{parse}
 use Rattle.words.proofs.Words.{word-small}
 use Rattle.steps.specs.Table.{Table}
 use Rattle.evaluate.specs.Evaluating.{Remembers, SameRows, formulaOf}
-use Rattle.property.specs.Solving.{application, firstSet}
-use Rattle.property.proofs.Solving.{made-remembers, table-application, Rounding, started, one-more, settled-rounds, never-settled}
-use Rattle.property.proofs.solve.Statement.{statement}
-use Rattle.property.proofs.solve.Tie as tie
+use Rattle.solve.specs.Solving.{application, firstSet}
+use Rattle.solve.proofs.Solving.{made-remembers, table-application, Rounding, started, one-more, settled-rounds, never-settled}
+use Rattle.solve.proofs.solve.Statement.{statement}
+use Rattle.solve.proofs.solve.Tie as tie
 
 -- the rows stay those of the table that was made
 abbrev Inv-loop : tie.InvT-loop
@@ -103,6 +103,7 @@ returns-2 c = record {
   word-is = c .before .before .loop .inv .3 .set-is;
   count-is = c .size .ensures _ _ (c .before .before .loop .inv .3 .set-is);
   rounds-are = settled-rounds (c .before .before .loop .inv .3) (c .before .loop-test .left);
+  rounds-few = c .before .before .loop .inv .3 .few;
 }
 
 pub solve-spec : {M : Type 1} → statement M

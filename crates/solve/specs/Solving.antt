@@ -14,9 +14,9 @@ use Rattle.sheet.specs.Reading.{parse}
 use Rattle.sheet.specs.Solution.{asksLeast}
 use Rattle.words.specs.Words.{wordOf}
 use Rattle.evaluate.specs.Evaluating.{formulaOf}
-use Rattle.property.specs.declared.Solved.{Solved}
-use Rattle.property.specs.declared.PropertyAnswer.{PropertyAnswer}
-use Rattle.property.specs.declared.PropertyAnswer.the-variants.{Satisfied, Refused}
+use Rattle.solve.specs.declared.Solved.{Solved}
+use Rattle.solve.specs.declared.PropertyAnswer.{PropertyAnswer}
+use Rattle.solve.specs.declared.PropertyAnswer.the-variants.{Satisfied, Refused}
 
 -- one application, for the bytes of a chart with these counts and of a sheet with so many nodes
 abbrev pub application : List ℕ → Shape → List ℕ → ℕ → (ℕ → Bool) → ℕ → Bool
@@ -30,6 +30,7 @@ pub record Reached (n : ℕ) (F : (ℕ → Bool) → ℕ → Bool) (S : ℕ → 
   pub word-is : a .word ≡ wordOf n (chain F S (a .rounds))
   pub count-is : a .count ≡ count (chain F S (a .rounds)) (below n)
   pub rounds-are : Rounds (below n) (chain F S) (a .rounds)
+  pub rounds-few : a .rounds ≤ 4096
 
 abbrev pub Solves : ℕ → ((ℕ → Bool) → ℕ → Bool) → (ℕ → Bool) → PropertyAnswer → Type 0
 Solves n F S (Satisfied a) = Reached n F S a

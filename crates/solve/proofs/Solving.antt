@@ -26,7 +26,7 @@ use Rattle.evaluate.specs.Evaluating.{tableWord, memoAt, Remembers, SameRows, f
 use Rattle.evaluate.proofs.Modal.{table-holds}
 use Rattle.evaluate.proofs.Rows.{read-labels, word-same}
 use Rattle.evaluate.proofs.Stepped.{remembers-none}
-use Rattle.property.specs.Solving.{application}
+use Rattle.solve.specs.Solving.{application}
 
 pub empty-word : (n : ℕ) → 0 ≡ wordOf n empty
 unfolding empty
