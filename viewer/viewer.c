@@ -1,5 +1,5 @@
-/* Shows charts as the bench does. Each question has a file: show.c, compare.c, why.c, check.c. A chart whose name is a question's
- * word is named with its folder, as ./compare.
+/* Shows charts as the bench does. Each question has a file: show.c, compare.c, why.c, check.c, both.c. A chart whose name is a
+ * question's word is named with its folder, as ./compare.
  *
  * tests/run builds it as tests/target/viewer. By hand, on x86-64, in the project's root:
  *     rt staticlib viewer
@@ -18,7 +18,8 @@ int usage(void) {
     fputs("usage: viewer CHART [SHEET [FORM]]    marks, simulation, and the states that satisfy a sheet or its short form\n"
           "       viewer compare OLD NEW         the states of either chart without a partner in the other\n"
           "       viewer why CHART [P Q]         the moves that tell unequal states apart, or the formula of states P and Q\n"
-          "       viewer check CHART LIST        whether a list of such moves is accepted, or which line is bad\n",
+          "       viewer check CHART LIST        whether a list of such moves is accepted, or which line is bad\n"
+          "       viewer both CHART SHEET        the least and the greatest solution of a sheet, and which one its kind asks for\n",
           stderr);
     return 2;
 }
@@ -46,6 +47,7 @@ static int ask(int argc, char **argv) {
     if (argc >= 2 && strcmp(argv[1], "compare") == 0) return argc == 4 ? compare(argv[2], argv[3]) : usage();
     if (argc >= 2 && strcmp(argv[1], "why") == 0) return ask_why(argc, argv);
     if (argc >= 2 && strcmp(argv[1], "check") == 0) return argc == 4 ? check(argv[2], argv[3]) : usage();
+    if (argc >= 2 && strcmp(argv[1], "both") == 0) return argc == 4 ? both(argv[2], argv[3]) : usage();
     if (argc < 2 || argc > 4) return usage();
     uint64_t form;
     if (argc == 4 && !read_number(argv[3], &form)) {

@@ -65,5 +65,6 @@ int compare(const char *old_path, const char *new_path);
 /* Of all pairs, or of one: null, or its two numbers. 2 also where one of them is no state. */
 int why(const char *chart_path, const uint64_t *pair);
 int check(const char *chart_path, const char *list_path);
+int both(const char *chart_path, const char *sheet_path);
 
 #endif

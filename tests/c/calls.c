@@ -34,13 +34,16 @@ static const uint8_t l[] = {3, 1, 2, 3, 1, 10, 3, 0, 0, 0, 0, 1, 0, 1, 1, 0, 2};
 static const uint8_t one[] = {3, 1, 3, 6, 3, 10, 20, 30, 3, 0, 0, 0, 1, 1, 1, 2, 1, 2, 2};
 static const uint8_t two[] = {4, 2, 4, 5, 6, 3, 10, 20, 30, 4, 0, 0, 0, 1, 0, 0, 2, 1, 1, 3, 2, 2, 3};
 
-/* lent numbers and a lent buffer, with what they hold before a call */
-enum { KEPT = 77, LENT = 50 };
-static uint64_t x, y, z;
+/* lent numbers, two lent arrays of three with a number before, between and after them, and a lent buffer, with what they hold
+ * before a call */
+enum { KEPT = 77, THREES = 9, LENT = 50 };
+static uint64_t x, y, z, threes[THREES];
+static uint64_t *const least = threes + 1, *const greatest = threes + 5;
 static uint8_t before[LENT], buffer[LENT];
 
 static void fill(void) {
     x = y = z = KEPT;
+    for (int i = 0; i < THREES; i++) threes[i] = KEPT;
     for (int i = 0; i < LENT; i++) before[i] = buffer[i] = (uint8_t)(200 + i);
 }
 
@@ -49,6 +52,7 @@ static void expect_kept(int line) {
     expect_number(line, "first number", x, KEPT);
     expect_number(line, "second number", y, KEPT);
     expect_number(line, "third number", z, KEPT);
+    for (int i = 0; i < THREES; i++) expect_number(line, "number in or beside an array", threes[i], KEPT);
     expect_number(line, "buffer kept", memcmp(buffer, before, LENT) == 0, 1);
     fill();
 }
@@ -101,6 +105,25 @@ static void simulation(void) {
     matrix(rebatelion_simulation, of_l, 1);
 }
 
+/* L's formulas, by kind: 0, unsaid, is the least */
+static const uint8_t l_or[3][10] = {
+    {1, 0, 5, 4, 6, 0, 2, 5, 0, 0}, {1, 1, 5, 4, 6, 0, 2, 5, 0, 0}, {1, 2, 5, 4, 6, 0, 2, 5, 0, 0}};
+static const uint8_t l_and[3][10] = {
+    {1, 0, 5, 3, 5, 0, 1, 6, 0, 0}, {1, 1, 5, 3, 5, 0, 1, 6, 0, 0}, {1, 2, 5, 3, 5, 0, 1, 6, 0, 0}};
+
+static void kinds(void) {
+    for (int kind = 0; kind < 3; kind++) {
+        EXPECT(rebatelion_property(l, sizeof l, l_or[kind], sizeof l_or[kind], &x, &y, &z), 0);
+        EXPECT(x, kind == 2 ? 7 : 6);
+        EXPECT(y, kind == 2 ? 3 : 2);
+        EXPECT(z, kind == 2 ? 0 : 2);
+        EXPECT(rebatelion_property(l, sizeof l, l_and[kind], sizeof l_and[kind], &x, &y, &z), 0);
+        EXPECT(x, kind == 2 ? 1 : 0);
+        EXPECT(y, kind == 2 ? 1 : 0);
+        EXPECT(z, kind == 2 ? 2 : 0);
+    }
+}
+
 static void property(void) {
     const uint8_t kind[] = {1, 3}, node[] = {1, 0, 1, 7}, open[] = {1, 0, 2, 1};
     asked = "property";
@@ -109,6 +132,7 @@ static void property(void) {
     EXPECT(x, 61);
     EXPECT(y, 5);
     EXPECT(z, 1);
+    kinds();
 
     fill();
     EXPECT_REFUSED(rebatelion_property(NULL, 0, e_sheet, sizeof e_sheet, &x, &y, &z), 0, 1, 0, 0);
@@ -138,6 +162,84 @@ static void property(void) {
     EXPECT_KEPT();
 }
 
+/* both solutions are these: word, count, rounds of either. The two arrays lie apart or side by side, either of them first, and
+ * what is around them stays */
+static void both_are(int line, const uint8_t *chart, size_t chart_len, const uint8_t *sheet, size_t sheet_len,
+                     const uint64_t of_least[3], const uint64_t of_greatest[3]) {
+    const int layouts[][2] = {{5, 1}, {1, 4}, {4, 1}, {1, 5}};
+    for (int i = 0; i < 4; i++) {
+        const int *at = layouts[i];
+        uint64_t expected[THREES];
+        fill();
+        memcpy(expected, threes, sizeof threes);
+        memcpy(expected + at[0], of_least, 3 * sizeof *of_least);
+        memcpy(expected + at[1], of_greatest, 3 * sizeof *of_greatest);
+        uint64_t refusal = rebatelion_both_solutions(chart, chart_len, sheet, sheet_len, threes + at[0], threes + at[1]);
+        expect_number(line, "refusal", refusal, 0);
+        for (int j = 0; j < THREES; j++) expect_number(line, "number in or beside an array", threes[j], expected[j]);
+    }
+}
+#define BOTH_ARE(chart, chart_len, sheet, sheet_len, of_least, of_greatest)                                                    \
+    both_are(__LINE__, chart, chart_len, sheet, sheet_len, of_least, of_greatest)
+#define THREE(word, count, rounds) ((const uint64_t[]){word, count, rounds})
+
+static void both_refused(void) {
+    const uint8_t count[] = {2, 0, 1, 1}, kind[] = {1, 3, 1, 1}, none[] = {1, 0, 0}, many[] = {1, 0, 201}, node[] = {1, 0, 1, 7};
+    const uint8_t open[] = {1, 0, 2, 1}, more[] = {1, 0, 1, 1, 0};
+    fill();
+    EXPECT_REFUSED(rebatelion_both_solutions(NULL, 0, NULL, 0, least, greatest), 0, 1, 0, 0);
+    EXPECT_KEPT();
+    EXPECT_REFUSED(rebatelion_both_solutions(NULL, 0, e_sheet, sizeof e_sheet, least, greatest), 0, 1, 0, 0);
+    EXPECT_KEPT();
+    /* the chart's faults come first */
+    EXPECT_REFUSED(rebatelion_both_solutions(e, sizeof e - 1, kind, sizeof kind, least, greatest), 0, 1, 33, 0);
+    EXPECT_KEPT();
+    EXPECT_REFUSED(rebatelion_both_solutions(e + 1, sizeof e - 1, e_sheet, sizeof e_sheet, least, greatest), 0, 5, 6, 0);
+    EXPECT_KEPT();
+    EXPECT_REFUSED(rebatelion_both_solutions(e, sizeof e, NULL, 0, least, greatest), 1, 1, 0, 0);
+    EXPECT_KEPT();
+    for (size_t length = 0; length < sizeof e_sheet; length++) {
+        EXPECT_REFUSED(rebatelion_both_solutions(e, sizeof e, e_sheet, length, least, greatest), 1, 1, length, 0);
+        EXPECT_KEPT();
+    }
+    EXPECT_REFUSED(rebatelion_both_solutions(e, sizeof e, more, sizeof more, least, greatest), 1, 8, 4, 0);
+    EXPECT_KEPT();
+    EXPECT_REFUSED(rebatelion_both_solutions(e, sizeof e, count, sizeof count, least, greatest), 1, 9, 0, 0);
+    EXPECT_KEPT();
+    /* any kind will do that is one */
+    EXPECT_REFUSED(rebatelion_both_solutions(e, sizeof e, kind, sizeof kind, least, greatest), 1, 9, 1, 0);
+    EXPECT_KEPT();
+    EXPECT_REFUSED(rebatelion_both_solutions(e, sizeof e, none, sizeof none, least, greatest), 1, 10, 2, 0);
+    EXPECT_KEPT();
+    EXPECT_REFUSED(rebatelion_both_solutions(e, sizeof e, many, sizeof many, least, greatest), 1, 10, 2, 0);
+    EXPECT_KEPT();
+    EXPECT_REFUSED(rebatelion_both_solutions(e, sizeof e, node, sizeof node, least, greatest), 1, 11, 3, 0);
+    EXPECT_KEPT();
+    EXPECT_REFUSED(rebatelion_both_solutions(l, sizeof l, e_sheet, sizeof e_sheet, least, greatest), 1, 12, 7, 0);
+    EXPECT_KEPT();
+    EXPECT_REFUSED(rebatelion_both_solutions(e, sizeof e, open, sizeof open, least, greatest), 1, 13, 4, 0);
+    EXPECT_KEPT();
+}
+
+static void both_solutions(void) {
+    const uint8_t alone[] = {1, 0, 0, 0, 0}, yes[] = {1, 0, 1, 1}, no[] = {1, 2, 1, 2};
+    asked = "both solutions";
+    for (int kind = 0; kind < 3; kind++) {
+        BOTH_ARE(l, sizeof l, l_or[kind], sizeof l_or[kind], THREE(6, 2, 2), THREE(7, 3, 0));
+        BOTH_ARE(l, sizeof l, l_and[kind], sizeof l_and[kind], THREE(0, 0, 0), THREE(1, 1, 2));
+    }
+    /* without variable both are the same states, and the rounds may differ */
+    BOTH_ARE(e, sizeof e, e_sheet, sizeof e_sheet, THREE(61, 5, 1), THREE(61, 5, 1));
+    BOTH_ARE(alone, sizeof alone, yes, sizeof yes, THREE(1, 1, 1), THREE(1, 1, 0));
+    BOTH_ARE(alone, sizeof alone, no, sizeof no, THREE(0, 0, 0), THREE(0, 0, 1));
+    /* inputs may overlap: the mode codes of this E are a sheet, diamond 0 true */
+    uint8_t held[sizeof e];
+    memcpy(held, e, sizeof e);
+    memcpy(held + 1, (const uint8_t[]){1, 2, 2, 5, 0, 1}, 6);
+    BOTH_ARE(held, sizeof held, held + 1, 6, THREE(3, 2, 1), THREE(3, 2, 1));
+    both_refused();
+}
+
 /* eventually false on L: the state at rest satisfied it by the old form, and by the new none does */
 static void eventually(void) {
     const uint8_t f[] = {1, 0, 1, 2}, old[] = {1, 1, 4, 4, 2, 6, 255, 0};
@@ -153,6 +255,31 @@ static void eventually(void) {
     EXPECT(z, 0);
 }
 
+/* always and a safe path on L: made with kind 2; as they were made with kind 0, they are read as least now */
+static void greatest_forms(void) {
+    const uint8_t f[] = {1, 1, 1, 1}, always[] = {1, 2, 4, 3, 1, 6, 255, 0}, always_before[] = {1, 0, 4, 3, 1, 6, 255, 0};
+    const uint8_t rests[] = {1, 0, 2, 6, 255, 2}, safe[] = {1, 2, 8, 3, 6, 255, 2, 4, 6, 255, 2, 5, 255, 0};
+    EXPECT(rebatelion_short_form(l, sizeof l, f, sizeof f, 0, buffer, LENT, &x), 0);
+    EXPECT(x, sizeof always);
+    EXPECT_BYTES(buffer, always, sizeof always);
+    EXPECT(rebatelion_property(l, sizeof l, buffer, sizeof always, &x, &y, &z), 0);
+    EXPECT(x, 7);
+    EXPECT(y, 3);
+    EXPECT(z, 0);
+    EXPECT(rebatelion_property(l, sizeof l, always_before, sizeof always_before, &x, &y, &z), 0);
+    EXPECT(x, 4);
+    EXPECT(y, 1);
+    EXPECT(z, 1);
+    BOTH_ARE(l, sizeof l, always_before, sizeof always_before, THREE(4, 1, 1), THREE(7, 3, 0));
+    EXPECT(rebatelion_short_form(l, sizeof l, rests, sizeof rests, 2, buffer, LENT, &x), 0);
+    EXPECT(x, sizeof safe);
+    EXPECT_BYTES(buffer, safe, sizeof safe);
+    EXPECT(rebatelion_property(l, sizeof l, buffer, sizeof safe, &x, &y, &z), 0);
+    EXPECT(x, 4);
+    EXPECT(y, 1);
+    EXPECT(z, 1);
+}
+
 static void short_form(void) {
     const uint8_t f[] = {1, 2, 1, 1}, variable[] = {1, 2, 1, 0};
     const uint8_t expected[] = {1, 1, 4, 4, 1, 5, 255, 0};
@@ -163,6 +290,7 @@ static void short_form(void) {
     EXPECT_BYTES(buffer, expected, sizeof expected);
     EXPECT_BYTES(buffer + sizeof expected, before + sizeof expected, LENT - sizeof expected);
     eventually();
+    greatest_forms();
 
     fill();
     EXPECT_REFUSED(rebatelion_short_form(NULL, 0, f, sizeof f, 1, buffer, LENT, &x), 0, 1, 0, 0);
@@ -298,6 +426,8 @@ static void line(const uint8_t *chart, size_t length, unsigned number, unsigned 
     EXPECT_KEPT();
     EXPECT_REFUSED(rebatelion_property(chart, length, f, sizeof f, &x, &y, &z), 0, number, place, byte);
     EXPECT_KEPT();
+    EXPECT_REFUSED(rebatelion_both_solutions(chart, length, f, sizeof f, least, greatest), 0, number, place, byte);
+    EXPECT_KEPT();
     EXPECT_REFUSED(rebatelion_short_form(chart, length, f, sizeof f, 0, buffer, LENT, &x), 0, number, place, byte);
     EXPECT_KEPT();
     EXPECT_REFUSED(rebatelion_compare(chart, length, l, sizeof l, buffer, LENT, &x, &y), 0, number, place, byte);
@@ -400,14 +530,21 @@ static void longest_sheets(void) {
     EXPECT(x, UINT32_MAX);
     EXPECT(y, 32);
     EXPECT(z, 1);
+    BOTH_ARE(chart, all, sheet, REBATELION_MAX_SHEET, THREE(UINT32_MAX, 32, 1), THREE(UINT32_MAX, 32, 1));
+    /* with the variable as the leaf: no state, and those that can go on for ever */
+    sheet[REBATELION_MAX_SHEET - 1] = 0;
+    BOTH_ARE(chart, all, sheet, REBATELION_MAX_SHEET, THREE(0, 0, 0), THREE(UINT32_MAX, 32, 1));
     fill();
     EXPECT_REFUSED(rebatelion_property(chart, all, sheet, REBATELION_MAX_SHEET + 1, &x, &y, &z), 1, 8, 402, 0);
+    EXPECT_KEPT();
+    EXPECT_REFUSED(rebatelion_both_solutions(chart, all, sheet, REBATELION_MAX_SHEET + 1, least, greatest), 1, 8, 402, 0);
     EXPECT_KEPT();
     /* the longest form that has 200 nodes: F of 196 diamonds and a leaf */
     sheet[2] = 197;
     sheet[3 + 2 * 196] = 1;
     EXPECT(rebatelion_short_form(chart, all, sheet, 3 + 2 * 196 + 1, 0, room, REBATELION_MAX_SHEET, &x), 0);
     EXPECT(x, 400);
+    EXPECT(room[1], 2);
     /* eventually takes an F of 194 nodes, and none of 195 */
     sheet[2] = 195;
     sheet[3 + 2 * 194] = 1;
@@ -454,13 +591,11 @@ static void longest_lists(void) {
     EXPECT_KEPT();
 }
 
-/* the longest list of reasons: a chain of 64 states, all of which are unequal; accepted, and a line too many is not */
-static void longest_reasons(void) {
-    enum { ALL = 64 * 63, BYTES = REBATELION_MAX_REASONS };
-    static uint8_t list[BYTES + 5];
-    uint8_t chain[4 + 64 + 1 + 3 * 63], *at = chain;
-    asked = "longest reasons";
-    EXPECT(REBATELION_MAX_REASONS, 5 * ALL);
+/* a chain of 64 states, the last of which rests */
+static uint8_t chain[4 + 64 + 1 + 3 * 63];
+
+static void make_chain(void) {
+    uint8_t *at = chain;
     *at++ = 64;
     for (int i = 0; i < 64; i++) *at++ = (uint8_t)i;
     for (int i = 0; i < 4; i++) *at++ = (uint8_t[]){1, 7, 63, 0}[i];
@@ -469,6 +604,22 @@ static void longest_reasons(void) {
         *at++ = 0;
         *at++ = (uint8_t)(i + 1);
     }
+}
+
+/* the most rounds of either solution: "at rest, or some step to X" from below, "some step to X" from above */
+static void most_rounds(void) {
+    const uint8_t some[] = {1, 0, 2, 5, 255, 0}, reach[] = {1, 2, 5, 4, 6, 255, 2, 5, 255, 0};
+    asked = "most rounds";
+    BOTH_ARE(chain, sizeof chain, reach, sizeof reach, THREE(UINT64_MAX, 64, 64), THREE(UINT64_MAX, 64, 0));
+    BOTH_ARE(chain, sizeof chain, some, sizeof some, THREE(0, 0, 0), THREE(0, 0, 64));
+}
+
+/* the longest list of reasons: all states of the chain are unequal; accepted, and a line too many is not */
+static void longest_reasons(void) {
+    enum { ALL = 64 * 63, BYTES = REBATELION_MAX_REASONS };
+    static uint8_t list[BYTES + 5];
+    asked = "longest reasons";
+    EXPECT(REBATELION_MAX_REASONS, 5 * ALL);
     fill();
     EXPECT_REFUSED(rebatelion_reasons(chain, sizeof chain, list, BYTES - 1, &x), 2, 14, 0, 0);
     EXPECT_KEPT();
@@ -492,6 +643,7 @@ int main(void) {
     marks();
     simulation();
     property();
+    both_solutions();
     short_form();
     compare();
     reasons();
@@ -501,6 +653,8 @@ int main(void) {
     longest_lines();
     longest_sheets();
     longest_lists();
+    make_chain();
+    most_rounds();
     longest_reasons();
     printf(wrong ? "calls from C FAILED\n" : "calls from C passed\n");
     return wrong;

@@ -1,6 +1,7 @@
 //! The archive's calls, as include/rebatelion.h declares them.
 //!
-//! What is lent to a call stands in a `Room`, with a margin on both sides, so that a byte written outside the lent part shows.
+//! What is lent to a call stands in a `Room`, with a margin on both sides, so that a byte written outside the lent part shows; and
+//! the lent numbers stand among others, for the same reason.
 //! Where the archive could not be linked (it is for x86-64 and the checks are not), a program that has it runs beside the
 //! checks, and every call, rooms and all, goes to it through a pipe: bridge/bridge.c.
 
@@ -13,9 +14,10 @@ pub enum Question {
     Compare = 4,
     Reasons = 5,
     CheckReasons = 6,
+    BothSolutions = 7,
 }
 
-pub const QUESTIONS: [Question; 7] = [
+pub const QUESTIONS: [Question; 8] = [
     Question::Marks,
     Question::Simulation,
     Question::Property,
@@ -23,6 +25,7 @@ pub const QUESTIONS: [Question; 7] = [
     Question::Compare,
     Question::Reasons,
     Question::CheckReasons,
+    Question::BothSolutions,
 ];
 
 /// Bytes before and after a lent part.
@@ -55,8 +58,12 @@ impl Room {
     }
 }
 
+/// Words before, between and after the two arrays of lent numbers.
+pub const AROUND: usize = 4;
+
 /// One call with all that is lent to it; the chart is the first where there are two. The numbers are those of the prototype, in
-/// its order; where it has fewer than three, the others are not lent, and neither are the parts that it does not have.
+/// its order: of both solutions two arrays of three, of the other questions up to three at the start. The others are not lent, and
+/// neither are the words around each three, nor the parts that the prototype does not have.
 #[derive(Clone, PartialEq, Eq)]
 pub struct Call {
     pub question: Question,
@@ -67,7 +74,37 @@ pub struct Call {
     /// A list of reasons that is handed in.
     pub list: Room,
     pub buffer: Room,
-    pub numbers: [u64; 3],
+    pub numbers: [u64; 6],
+    pub around: [[u64; AROUND]; 3],
+}
+
+/// The two arrays of numbers: of both solutions the word, the count and the rounds of the least, and those of the greatest.
+pub fn halves([a, b, c, d, e, f]: [u64; 6]) -> [[u64; 3]; 2] {
+    [[a, b, c], [d, e, f]]
+}
+
+/// The words of a call as they lie in memory: three numbers and again three, with the words around them.
+type Words = [u64; 6 + 3 * AROUND];
+
+/// Where the two arrays of numbers start there.
+const FIRST: usize = AROUND;
+const SECOND: usize = FIRST + 3 + AROUND;
+
+impl Call {
+    fn words(&self) -> Words {
+        let (first, second) = self.numbers.split_at(3);
+        let [before, between, after] = &self.around;
+        [before.as_slice(), first, between, second, after].concat().try_into().expect("as many as there are")
+    }
+
+    /// The words as a call left them.
+    fn keep(&mut self, words: &Words) {
+        self.numbers[..3].copy_from_slice(&words[FIRST..FIRST + 3]);
+        self.numbers[3..].copy_from_slice(&words[SECOND..SECOND + 3]);
+        for (around, at) in self.around.iter_mut().zip([0, FIRST + 3, SECOND + 3]) {
+            around.copy_from_slice(&words[at..at + AROUND]);
+        }
+    }
 }
 
 #[cfg(linked)]
@@ -75,7 +112,7 @@ pub use linked::Archive;
 
 #[cfg(linked)]
 mod linked {
-    use super::{Call, Question, Room};
+    use super::{Call, Question, Room, FIRST, SECOND};
 
     type In = *const u8;
     type Out = *mut u8;
@@ -108,6 +145,7 @@ mod linked {
         ) -> u64;
         fn rebatelion_reasons(chart: In, cn: usize, buffer: Out, bn: usize, written: Number) -> u64;
         fn rebatelion_check_reasons(chart: In, cn: usize, list: In, ln: usize, lines: Number) -> u64;
+        fn rebatelion_both_solutions(chart: In, cn: usize, sheet: In, sn: usize, least: Number, greatest: Number) -> u64;
     }
 
     pub struct Archive;
@@ -124,25 +162,35 @@ mod linked {
         }
 
         pub fn call(&mut self, call: &mut Call) -> u64 {
-            let (chart, chart_len) = lent(&mut call.chart);
-            let (sheet, sheet_len) = lent(&mut call.sheet);
-            let (second, second_len) = lent(&mut call.second);
-            let (list, list_len) = lent(&mut call.list);
-            let (buffer, buffer_len) = lent(&mut call.buffer);
-            let [a, b, c] = &mut call.numbers;
-            // SAFETY: the prototypes are those of include/rebatelion.h; each part lies in its own room, and a null one is empty
-            unsafe {
-                match call.question {
-                    Question::Marks => rebatelion_marks(chart, chart_len, buffer, buffer_len, a, b),
-                    Question::Simulation => rebatelion_simulation(chart, chart_len, buffer, buffer_len, a, b),
-                    Question::Property => rebatelion_property(chart, chart_len, sheet, sheet_len, a, b, c),
-                    Question::ShortForm => {
-                        rebatelion_short_form(chart, chart_len, sheet, sheet_len, call.name, buffer, buffer_len, a)
-                    }
-                    Question::Compare => rebatelion_compare(chart, chart_len, second, second_len, buffer, buffer_len, a, b),
-                    Question::Reasons => rebatelion_reasons(chart, chart_len, buffer, buffer_len, a),
-                    Question::CheckReasons => rebatelion_check_reasons(chart, chart_len, list, list_len, a),
+            let mut words = call.words();
+            let code = with_numbers(call, words.as_mut_ptr());
+            call.keep(&words);
+            code
+        }
+    }
+
+    /// The call, with its numbers in these words.
+    fn with_numbers(call: &mut Call, words: Number) -> u64 {
+        let (chart, chart_len) = lent(&mut call.chart);
+        let (sheet, sheet_len) = lent(&mut call.sheet);
+        let (second, second_len) = lent(&mut call.second);
+        let (list, list_len) = lent(&mut call.list);
+        let (buffer, buffer_len) = lent(&mut call.buffer);
+        // SAFETY: the prototypes are those of include/rebatelion.h; each part lies in its own room, and a null one is empty; the
+        // numbers lie among the words
+        unsafe {
+            let [a, b, c, d] = [FIRST, FIRST + 1, FIRST + 2, SECOND].map(|at| words.add(at));
+            match call.question {
+                Question::Marks => rebatelion_marks(chart, chart_len, buffer, buffer_len, a, b),
+                Question::Simulation => rebatelion_simulation(chart, chart_len, buffer, buffer_len, a, b),
+                Question::Property => rebatelion_property(chart, chart_len, sheet, sheet_len, a, b, c),
+                Question::ShortForm => {
+                    rebatelion_short_form(chart, chart_len, sheet, sheet_len, call.name, buffer, buffer_len, a)
                 }
+                Question::Compare => rebatelion_compare(chart, chart_len, second, second_len, buffer, buffer_len, a, b),
+                Question::Reasons => rebatelion_reasons(chart, chart_len, buffer, buffer_len, a),
+                Question::CheckReasons => rebatelion_check_reasons(chart, chart_len, list, list_len, a),
+                Question::BothSolutions => rebatelion_both_solutions(chart, chart_len, sheet, sheet_len, a, d),
             }
         }
     }
@@ -178,14 +226,15 @@ mod bridged {
         }
 
         /// A frame goes there, and the same frame comes back with the answer in its first word: the question or the code,
-        /// the name, which parts are null, the margin, five lengths, three numbers, five rooms.
+        /// the name, which parts are null, the margin, five lengths, the numbers and the words around them, five rooms.
         pub fn call(&mut self, call: &mut Call) -> u64 {
+            let words = call.words();
             let rooms = [&mut call.chart, &mut call.sheet, &mut call.second, &mut call.list, &mut call.buffer];
             let frame = &mut self.frame;
             frame.clear();
             let nulls = rooms.iter().enumerate().map(|(i, room)| (room.null as u64) << i).sum();
             let lengths: Vec<u64> = rooms.iter().map(|room| room.len() as u64).collect();
-            for word in [call.question as u64, call.name, nulls, MARGIN as u64].iter().chain(&lengths).chain(&call.numbers) {
+            for word in [call.question as u64, call.name, nulls, MARGIN as u64].iter().chain(&lengths).chain(&words) {
                 frame.extend(word.to_le_bytes());
             }
             for room in &rooms {
@@ -200,14 +249,16 @@ mod bridged {
                 );
             }
             let word = |i: usize| u64::from_le_bytes(frame[8 * i..8 * i + 8].try_into().unwrap());
-            call.numbers = [word(9), word(10), word(11)];
-            let mut at = 96;
+            let left = std::array::from_fn(|i| word(9 + i));
+            let mut at = 8 * (9 + left.len());
             for room in rooms {
                 let length = room.bytes.len();
                 room.bytes.copy_from_slice(&frame[at..at + length]);
                 at += length;
             }
-            word(0)
+            let code = word(0);
+            call.keep(&left);
+            code
         }
     }
 

@@ -1,6 +1,6 @@
 //! Calls of the archive, each beside the reference (src/outcome.rs).
 
-use crate::archive::{Archive, Call, Question, Room, MARGIN};
+use crate::archive::{halves, Archive, Call, Question, Room, AROUND, MARGIN};
 use crate::faults::{self, Fault};
 use crate::inputs::random::Random;
 use crate::lines;
@@ -45,7 +45,7 @@ pub type Refused = (u64, u64, u64, u64);
 /// What the archive answered.
 pub struct Told {
     pub code: u64,
-    pub numbers: [u64; 3],
+    pub numbers: [u64; 6],
     /// The lent part of the buffer, after the call.
     pub buffer: Vec<u8>,
 }
@@ -57,6 +57,11 @@ impl Told {
             0 => None,
             code => Some((code >> 8 & 255, code & 255, code >> 16 & 0xffff_ffff, code >> 48)),
         }
+    }
+
+    /// Of both solutions the least and the greatest, each as word, count and rounds; of a property, the first is its answer.
+    pub fn halves(&self) -> [[u64; 3]; 2] {
+        halves(self.numbers)
     }
 }
 
@@ -96,12 +101,16 @@ impl<'a> Checker<'a> {
         self.ask(Question::ShortForm, chart.into(), sheet.into(), name, buffer)
     }
 
-    /// The four questions about one chart, with buffers of lengths near those that are needed.
-    pub fn all<'b, 'c>(&mut self, chart: impl Into<Lent<'b>>, sheet: impl Into<Lent<'c>>) -> [Told; 4] {
+    pub fn both_solutions<'b, 'c>(&mut self, chart: impl Into<Lent<'b>>, sheet: impl Into<Lent<'c>>) -> Told {
+        self.ask(Question::BothSolutions, chart.into(), sheet.into(), 0, 0)
+    }
+
+    /// The five questions about one chart and a sheet, with buffers of lengths near those that are needed.
+    pub fn all<'b, 'c>(&mut self, chart: impl Into<Lent<'b>>, sheet: impl Into<Lent<'c>>) -> [Told; 5] {
         let chart = chart.into();
         let [marks, simulation] = self.matrices(chart);
-        let [property, short_form] = self.sheets(chart, sheet);
-        [marks, simulation, property, short_form]
+        let [property, short_form, both_solutions] = self.sheets(chart, sheet);
+        [marks, simulation, property, short_form, both_solutions]
     }
 
     /// Marks and simulation, each with a buffer that is just long enough, or one less, or more, or any.
@@ -114,8 +123,8 @@ impl<'a> Checker<'a> {
         })
     }
 
-    /// A property, and a short form with some name and a buffer that is just long enough, or one less, or more, or any.
-    pub fn sheets<'b, 'c>(&mut self, chart: impl Into<Lent<'b>>, sheet: impl Into<Lent<'c>>) -> [Told; 2] {
+    /// A property; a short form with some name and a buffer that is just long enough, or one less, or more, or any; both solutions.
+    pub fn sheets<'b, 'c>(&mut self, chart: impl Into<Lent<'b>>, sheet: impl Into<Lent<'c>>) -> [Told; 3] {
         let (chart, sheet) = (chart.into(), sheet.into());
         let property = self.ask(Question::Property, chart, sheet, 0, 0);
         let name = match self.random.below(16) {
@@ -125,7 +134,8 @@ impl<'a> Checker<'a> {
             _ => self.random.below(4) as u64,
         };
         let buffer = self.length_near(sheet.bytes.len() + short_form::added(name));
-        [property, self.ask(Question::ShortForm, chart, sheet, name, buffer)]
+        let short_form = self.ask(Question::ShortForm, chart, sheet, name, buffer);
+        [property, short_form, self.both_solutions(chart, sheet)]
     }
 
     pub fn compare<'b, 'c>(&mut self, first: impl Into<Lent<'b>>, second: impl Into<Lent<'c>>, buffer: usize) -> Told {
@@ -213,9 +223,10 @@ impl<'a> Checker<'a> {
         self.random.fill(&mut buffer.bytes);
         buffer.null = buffer.len() == 0 && self.random.once_in(2);
         let chart = self.room(chart);
-        let numbers = [self.random.word(), self.random.word(), self.random.word()];
+        let numbers = [0; 6].map(|_| self.random.word());
+        let around = [[0; AROUND]; 3].map(|words| words.map(|_| self.random.word()));
         let [sheet, second, list] = [0; 3].map(Room::of);
-        Call { question, name: 0, chart, sheet, second, list, buffer, numbers }
+        Call { question, name: 0, chart, sheet, second, list, buffer, numbers, around }
     }
 
     fn ask(&mut self, question: Question, chart: Lent, sheet: Lent, name: u64, buffer: usize) -> Told {

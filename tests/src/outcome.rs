@@ -1,10 +1,11 @@
-//! What comes of one call, and the one place where it is held against the reference: the code returned, every lent number and
-//! every byte must agree.
+//! What comes of one call, and the one place where it is held against the reference: the code returned, every lent number, every
+//! word around the numbers and every byte must agree.
 
-use crate::archive::{Call, Question, MARGIN};
+use crate::archive::{halves, Call, Question, MARGIN};
 use crate::counts::{codes_together, Counts};
+use crate::reference::property::Satisfying;
 use crate::reference::refusal::Refusal;
-use crate::reference::{check_reasons, compare, nearness, property, reasons, short_form};
+use crate::reference::{both_solutions, check_reasons, compare, nearness, property, reasons, short_form};
 use std::ops::Range;
 
 /// The code that a call returned, and all that was lent to it as it is afterwards.
@@ -110,11 +111,21 @@ impl Outcome {
         self.left.sheet.part().get(2).copied().unwrap_or(0) as usize
     }
 
-    /// The rounds of an answer; a short form has none, and neither have reasons.
+    /// Of both solutions the least and the greatest: word, count and rounds of each.
+    pub fn halves(&self) -> [[u64; 3]; 2] {
+        halves(self.left.numbers)
+    }
+
+    /// Of both solutions the states in which they differ.
+    pub fn differing(&self) -> u64 {
+        self.left.numbers[0] ^ self.left.numbers[3]
+    }
+
+    /// The rounds of an answer, of both solutions those of the least; a short form has none, and neither have reasons.
     pub fn rounds(&self) -> u64 {
         match self.left.question {
             Question::Marks | Question::Simulation => self.left.numbers[1],
-            Question::Property => self.left.numbers[2],
+            Question::Property | Question::BothSolutions => self.left.numbers[2],
             Question::ShortForm | Question::Reasons | Question::CheckReasons => 0,
             Question::Compare => self.left.numbers[1],
         }
@@ -124,7 +135,7 @@ impl Outcome {
     pub fn filled(&self) -> usize {
         match self.left.question {
             Question::Marks | Question::Simulation => self.states().pow(2),
-            Question::Property | Question::CheckReasons => 0,
+            Question::Property | Question::CheckReasons | Question::BothSolutions => 0,
             Question::ShortForm | Question::Compare | Question::Reasons => self.left.numbers[0] as usize,
         }
     }
@@ -150,6 +161,11 @@ pub struct Expected {
     pub outcome: Outcome,
 }
 
+/// A solution's numbers, in the order in which they are lent.
+fn three(solution: Satisfying) -> [u64; 3] {
+    [solution.word, solution.count, solution.rounds]
+}
+
 pub fn expected(before: &Call) -> Expected {
     let mut left = before.clone();
     let (chart, sheet, second) = (before.chart.part(), before.sheet.part(), before.second.part());
@@ -159,13 +175,17 @@ pub fn expected(before: &Call) -> Expected {
         Question::Simulation => {
             nearness::simulation(chart, buffer).map(|m| numbers[..2].copy_from_slice(&[m.states, m.rounds]))
         }
-        Question::Property => property::property(chart, sheet).map(|s| *numbers = [s.word, s.count, s.rounds]),
+        Question::Property => property::property(chart, sheet).map(|s| numbers[..3].copy_from_slice(&three(s))),
         Question::ShortForm => short_form::short_form(chart, sheet, before.name, buffer).map(|written| numbers[0] = written),
         Question::Compare => {
             compare::compare(chart, second, buffer).map(|c| numbers[..2].copy_from_slice(&[c.written, c.rounds]))
         }
         Question::Reasons => reasons::reasons(chart, buffer).map(|written| numbers[0] = written),
         Question::CheckReasons => check_reasons::check_reasons(chart, before.list.part()).map(|lines| numbers[0] = lines),
+        Question::BothSolutions => both_solutions::both_solutions(chart, sheet).map(|both| {
+            numbers[..3].copy_from_slice(&three(both.least));
+            numbers[3..].copy_from_slice(&three(both.greatest));
+        }),
     };
     let refused = answer.err();
     Expected { refused, outcome: Outcome { code: refused.map_or(0, |r| r.packed()), left } }
@@ -202,6 +222,15 @@ fn describe(before: &Call, expected: &Expected, told: &Outcome) -> String {
     if is.numbers != was.numbers {
         out += &format!("\n  numbers   lent {:?}, expected {:?}, left {:?}", before.numbers, was.numbers, is.numbers);
     }
+    if is.around != was.around {
+        out += &format!("\n  around the numbers   lent {:?}, left {:?}", was.around, is.around);
+    }
+    out + &describe_rooms(was, is)
+}
+
+/// Of each room the first byte that is not as it should be.
+fn describe_rooms(was: &Call, is: &Call) -> String {
+    let mut out = String::new();
     for (name, was, is) in [
         ("chart", &was.chart, &is.chart),
         ("sheet", &was.sheet, &is.sheet),

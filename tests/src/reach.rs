@@ -1,15 +1,17 @@
 //! What must be reached in a run, beside the refusals of src/table.rs: every number of rounds where charts and formulas are as
 //! large as can be, every answer's size and every division of the limits between two charts, and buffers too long by thousands
-//! of bytes; of properties every word of the steps and every operand that changes, of sheets the lengths and what remains of them; of
+//! of bytes; of solutions every word of the steps and every operand that changes, of both solutions of a sheet every number of
+//! rounds that the two can have together and of states in which they differ, of sheets the lengths and what remains of them; of
 //! lists of reasons every length and depth, every line that can be bad or incomplete, and of their lines every answer
 //! that can decide and every choice among moves; and of faulty triples, for each question, every number and byte that they can
 //! have in small charts and in the longest.
 
-use crate::archive::Question::{self, CheckReasons, Compare, Marks, Property, Reasons, ShortForm, Simulation};
+use crate::archive::Question::{self, BothSolutions, CheckReasons, Compare, Marks, Property, Reasons, ShortForm, Simulation};
 use crate::counts::{byte as byte_of, Counts};
 use crate::outcome::Outcome;
 use std::ops::RangeInclusive;
 
+mod both;
 mod moves;
 mod reasons;
 pub mod sheets;
@@ -90,7 +92,11 @@ const EVERY_QUESTION: &[Option<Asked>] = &[
     Some((Compare, 3)),
     Some((Reasons, 0)),
     Some((CheckReasons, 0)),
+    Some((BothSolutions, 0)),
 ];
+
+/// The questions that solve a sheet, once or twice.
+const SOLVING: &[Option<Asked>] = &[Some((Property, 0)), Some((BothSolutions, 0))];
 
 /// So many states, actions and triples a small chart has at the most.
 const SMALL: usize = 4;
@@ -204,13 +210,19 @@ pub fn by(outcome: &Outcome) -> impl Iterator<Item = Value> + '_ {
     let asked = (outcome.left.question, outcome.input());
     // an input that is no chart has no triples
     let of_a_chart = if outcome.code != 0 && [0, 3].contains(&asked.1) { OF_A_CHART } else { &[] };
-    let of_a_sheet = if outcome.code != 0 && sheets::BOTH_QUESTIONS.contains(&Some(asked)) { sheets::REFUSED } else { &[] };
-    let (of_steps, of_sheets) = if asked.0 == Property { (steps::ROWS, sheets::ROWS) } else { (&[] as _, &[] as _) };
+    let of_a_sheet = if outcome.code != 0 && sheets::EVERY_QUESTION.contains(&Some(asked)) { sheets::REFUSED } else { &[] };
+    let (of_steps, of_sheets) = if steps::solved(outcome) { (steps::ROWS, sheets::ROWS) } else { (&[] as _, &[] as _) };
+    let of_both = if outcome.answers(BothSolutions) { both::ROWS } else { &[] };
     let of_reasons = if [Reasons, CheckReasons].contains(&asked.0) { reasons::ROWS } else { &[] };
-    let of_one = ROWS.iter().chain(of_steps).chain(of_sheets).chain(of_reasons).map(|row| (row, None));
-    let of_all = of_one.chain(of_a_chart.iter().chain(of_a_sheet).map(move |row| (row, Some(asked))));
-    let of_moves = moves::by(outcome).into_iter().chain(steps::by(outcome)).map(|(what, value)| (what, None, value));
-    of_all.filter_map(|((what, value, _), asked)| value(outcome).map(|value| (*what, asked, value))).chain(of_moves)
+    let of_one = ROWS.iter().chain(of_both).chain(of_reasons).map(|row| (row, None));
+    let of_several = of_a_chart.iter().chain(of_a_sheet).chain(of_steps).chain(of_sheets).map(move |row| (row, Some(asked)));
+    let of_rows = of_one.chain(of_several);
+    let of_moves = moves::by(outcome).into_iter().map(|(what, value)| (what, None, value));
+    let of_changes = steps::by(outcome).into_iter().map(move |(what, value)| (what, Some(asked), value));
+    of_rows
+        .filter_map(|((what, value, _), asked)| value(outcome).map(|value| (*what, asked, value)))
+        .chain(of_moves)
+        .chain(of_changes)
 }
 
 /// All that must be reached.
@@ -222,9 +234,12 @@ pub fn must() -> impl Iterator<Item = Value> {
 
 /// What is counted, of which questions, and how far it must go.
 pub fn rows() -> impl Iterator<Item = (&'static str, &'static [Option<Asked>], RangeInclusive<u64>)> {
-    let of_one =
-        [ROWS, steps::ROWS, sheets::ROWS, reasons::ROWS].into_iter().flatten().map(|(what, _, range)| (*what, range.clone()));
-    let of_one = of_one.chain(steps::of_changes()).chain(moves::rows()).map(|(what, range)| (what, [None].as_slice(), range));
-    let of_a_sheet = sheets::REFUSED.iter().map(|(what, _, range)| (*what, sheets::BOTH_QUESTIONS, range.clone()));
-    of_one.chain(of_a_sheet).chain(OF_A_CHART.iter().map(|(what, _, range)| (*what, EVERY_QUESTION, range.clone())))
+    let of = |rows: &'static [Row]| rows.iter().map(|(what, _, range)| (*what, range.clone()));
+    let of_one = of(ROWS).chain(of(both::ROWS)).chain(of(reasons::ROWS)).chain(moves::rows());
+    let of_solutions = of(steps::ROWS).chain(of(sheets::ROWS)).chain(steps::of_changes());
+    let of_one = of_one.map(|(what, range)| (what, [None].as_slice(), range));
+    let of_solutions = of_solutions.map(|(what, range)| (what, SOLVING, range));
+    let of_a_sheet = of(sheets::REFUSED).map(|(what, range)| (what, sheets::EVERY_QUESTION, range));
+    let of_a_chart = of(OF_A_CHART).map(|(what, range)| (what, EVERY_QUESTION, range));
+    of_one.chain(of_solutions).chain(of_a_sheet).chain(of_a_chart)
 }

@@ -1,8 +1,9 @@
-//! A property by a table of the steps as words and a memory of each diamond, as the archive works. It is no reference: that one looks
+//! A solution by a table of the steps as words and a memory of each diamond, as the archive works. It is no reference: that one looks
 //! at every triple for every diamond and box. Here a slip can be let in, for the test of the tests (src/faults/steps.rs), and it is
 //! told which operands change, for what must be reached (src/reach/steps.rs).
 
 use crate::counts::Counts;
+use crate::reference::sheet::Solution;
 
 /// What a table or a memory can get wrong.
 #[derive(Clone, Copy, PartialEq, Eq)]
@@ -62,6 +63,11 @@ pub enum Slip {
     TooClose,
     /// The memory begins in the table's last row.
     InLastRow,
+    /// The greatest solution is sought from all states but 63.
+    Without63,
+    /// The memory has the results of the other solution, which was sought before, or their operands.
+    ResultsLeft,
+    OperandsLeft,
 }
 
 use Slip::*;
@@ -237,8 +243,12 @@ impl<'a> Solving<'a> {
     }
 
     /// The word, the number of states in it and the rounds.
-    fn solve(&mut self) -> [u64; 3] {
-        let mut set = if self.sheet[1] == 1 { 0 } else { self.all() };
+    fn solve(&mut self, solution: Solution) -> [u64; 3] {
+        let mut set = match (solution, self.slip) {
+            (Solution::Least, _) => 0,
+            (Solution::Greatest, Some(Without63)) => self.all() & !(1 << 63),
+            (Solution::Greatest, _) => self.all(),
+        };
         for k in 0..MOST {
             self.application = k;
             let (next, _) = self.formula(3, set);
@@ -251,22 +261,40 @@ impl<'a> Solving<'a> {
     }
 }
 
-/// What a good sheet gives on a good chart, with a slip.
-pub fn solved(chart: &[u8], sheet: &[u8], slip: Option<Slip>) -> [u64; 3] {
-    let mut solving = Solving::new(chart, sheet, slip);
-    if slip == Some(Kept) {
-        let table = (solving.m + 1) * solving.n;
-        let all = solving.all();
-        let own: Vec<u64> = solving.words[..table].iter_mut().map(|word| std::mem::replace(word, all)).collect();
-        solving.solve();
-        solving.words[..table].copy_from_slice(&own);
+/// The solution that a good sheet's kind asks for.
+pub fn own(sheet: &[u8]) -> Solution {
+    if sheet[1] == 2 {
+        Solution::Greatest
+    } else {
+        Solution::Least
     }
-    solving.solve()
 }
 
-/// The operands that change while a good sheet is solved.
-pub fn changes(chart: &[u8], sheet: &[u8]) -> Vec<Change> {
+/// A solution of a good sheet on a good chart, with a slip.
+pub fn solved(chart: &[u8], sheet: &[u8], solution: Solution, slip: Option<Slip>) -> [u64; 3] {
+    let mut solving = Solving::new(chart, sheet, slip);
+    let table = (solving.m + 1) * solving.n;
+    match slip {
+        Some(Kept) => {
+            let all = solving.all();
+            let own: Vec<u64> = solving.words[..table].iter_mut().map(|word| std::mem::replace(word, all)).collect();
+            solving.solve(solution);
+            solving.words[..table].copy_from_slice(&own);
+        }
+        Some(ResultsLeft | OperandsLeft) => {
+            let other = if solution == Solution::Least { Solution::Greatest } else { Solution::Least };
+            solving.solve(other);
+            let lost = (slip == Some(OperandsLeft)) as usize;
+            solving.words[table + lost..].iter_mut().step_by(2).for_each(|word| *word = 0);
+        }
+        _ => {}
+    }
+    solving.solve(solution)
+}
+
+/// The operands that change while a solution of a good sheet is sought.
+pub fn changes(chart: &[u8], sheet: &[u8], solution: Solution) -> Vec<Change> {
     let mut solving = Solving::new(chart, sheet, None);
-    solving.solve();
+    solving.solve(solution);
     solving.changes
 }

@@ -104,7 +104,7 @@ fn can_occur(question: Question) -> Vec<(Input, &'static Row)> {
     let mut lists = vec![(Input::Chart, OF_A_CHART)];
     match question {
         Question::Marks | Question::Simulation | Question::Reasons => lists.push((Input::BufferOrName, OF_THE_BUFFER)),
-        Question::Property => lists.extend(of_the_sheet),
+        Question::Property | Question::BothSolutions => lists.extend(of_the_sheet),
         Question::ShortForm => lists.extend(of_the_sheet.into_iter().chain(of_a_short_form)),
         Question::Compare => lists.extend(of_two_charts),
         Question::CheckReasons => lists.push((Input::Sheet, OF_THE_LIST)),
@@ -115,9 +115,13 @@ fn can_occur(question: Question) -> Vec<(Input, &'static Row)> {
 /// A count for each question.
 type Counts = [u64; QUESTIONS.len()];
 
+/// A cell for each question, as wide as its name.
+fn line(title: &str, [a, b, c, d, e, f, g, h]: [String; QUESTIONS.len()]) {
+    println!("{title:<52}{a:>10}{b:>12}{c:>10}{d:>12}{e:>9}{f:>9}{g:>15}{h:>16}");
+}
+
 fn row(title: &str, counts: Counts) {
-    let [a, b, c, d, e, f, g] = counts.map(|count| if count == 0 { "-".to_string() } else { count.to_string() });
-    println!("{title:<52}{a:>10}{b:>12}{c:>10}{d:>12}{e:>9}{f:>9}{g:>15}");
+    line(title, counts.map(|count| if count == 0 { "-".to_string() } else { count.to_string() }));
 }
 
 /// The sum of those refusals of each question that are wanted.
@@ -134,8 +138,8 @@ fn different_inputs(tally: &Tally, question: Question) -> usize {
 
 /// Prints the counts.
 pub fn show(tally: &Tally) {
-    let [a, b, c, d, e, f, g] = ["marks", "simulation", "property", "short form", "compare", "reasons", "check reasons"];
-    println!("{:<52}{a:>10}{b:>12}{c:>10}{d:>12}{e:>9}{f:>9}{g:>15}", "");
+    let names = ["marks", "simulation", "property", "short form", "compare", "reasons", "check reasons", "both solutions"];
+    line("", names.map(String::from));
     row("asked", QUESTIONS.map(|q| tally.asked.get(&q).copied().unwrap_or(0)));
     row("different inputs", QUESTIONS.map(|q| different_inputs(tally, q) as u64));
     row("answered", QUESTIONS.map(|q| tally.answered.get(&q).copied().unwrap_or(0)));

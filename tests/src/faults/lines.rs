@@ -2,7 +2,7 @@
 //! against the bytes of the file (src/lines.rs).
 
 use super::Fault;
-use crate::archive::Question::{Marks, Property, ShortForm, Simulation};
+use crate::archive::Question::{BothSolutions, Marks, Property, ShortForm, Simulation};
 use crate::counts::{byte, Counts};
 use crate::outcome::Outcome;
 
@@ -253,6 +253,18 @@ pub const FAULTS: &[Fault] = &[
         name: "line-short-form-byte-lost",
         what: "byte 0 for an action, only in a short form and in triple 0",
         when: |o| out_of_range(o, 1) && o.left.question == ShortForm && o.place() == 0,
+        alter: |o| tell_byte(o, 0),
+    },
+    Fault {
+        name: "line-both-as-before",
+        what: "6 as it was told before there were lines, only for both solutions and in triple 1,023",
+        when: |o| o.refuses(6) && o.left.question == BothSolutions && o.place() == 1023,
+        alter: |o| tell(o, o.line_at(), 0),
+    },
+    Fault {
+        name: "line-both-byte-lost",
+        what: "byte 0 for a target, only for both solutions and in triple 500",
+        when: |o| out_of_range(o, 2) && o.left.question == BothSolutions && o.place() == 500,
         alter: |o| tell_byte(o, 0),
     },
     Fault {

@@ -3,6 +3,7 @@
 //! the reference, as every answer does, and a fault of a triple's number or byte through the one against the file's bytes too. A
 //! fault that these do not notice fails the run, and so does one whose answers are never met.
 
+mod both;
 mod check_reasons;
 mod comparisons;
 mod lines;
@@ -31,7 +32,8 @@ pub fn all() -> impl Iterator<Item = &'static Fault> {
     let of_one_chart = [matrices::FAULTS, sheets::FAULTS, refusals::FAULTS, lines::FAULTS];
     let of_steps = [steps::OF_THE_TABLE, steps::OF_THE_MEMORY, steps::OF_SIZES, reader::FAULTS];
     let of_more = [comparisons::FAULTS, reasons::FAULTS, check_reasons::FAULTS];
-    of_one_chart.into_iter().chain(of_steps).chain(of_more).flatten()
+    let of_both = [both::OF_THE_HALVES, both::OF_THE_ARRAYS, both::OF_REFUSALS, both::OF_THE_TABLE, both::OF_SIZES];
+    of_one_chart.into_iter().chain(of_steps).chain(of_more).chain(of_both).flatten()
 }
 
 pub fn named(name: &str) -> &'static Fault {
@@ -93,6 +95,18 @@ pub fn show(tally: &Tally) {
 pub fn failings(tally: &Tally) -> Vec<String> {
     let not_noticed = all().filter(|fault| !tally.met.get(fault.name).is_some_and(|met| met.noticed));
     not_noticed.map(|fault| format!("not noticed: {}, {}", fault.name, fault.what)).collect()
+}
+
+impl Outcome {
+    /// Another solution in the place of a property's, or of the least of both.
+    fn set_first(&mut self, solution: [u64; 3]) {
+        self.left.numbers[..3].copy_from_slice(&solution);
+    }
+
+    /// In the place of the greatest of both.
+    fn set_second(&mut self, solution: [u64; 3]) {
+        self.left.numbers[3..].copy_from_slice(&solution);
+    }
 }
 
 impl Room {

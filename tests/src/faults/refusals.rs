@@ -83,7 +83,7 @@ pub const FAULTS: &[Fault] = &[
         name: "second-and-third-number",
         what: "the second and the third lent number, written where a property is refused with 11",
         when: |o| o.left.question == Property && o.refuses(11),
-        alter: |o| o.left.numbers[1..].iter_mut().for_each(|number| *number ^= 1),
+        alter: |o| o.left.numbers[1..3].iter_mut().for_each(|number| *number ^= 1),
     },
     Fault {
         name: "number-on-7",

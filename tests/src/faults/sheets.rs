@@ -4,10 +4,22 @@ use super::Fault;
 use crate::archive::Question::{Property, ShortForm};
 use crate::archive::MARGIN;
 use crate::outcome::Outcome;
+use crate::reference::sheet::Solution;
+use crate::steps::solved;
 
 /// A property of 200 nodes on a longest chart.
 fn largest(o: &Outcome) -> bool {
     o.answers(Property) && o.nodes() == 200 && o.of_longest()
+}
+
+/// The greatest solution of a property whose kind is unsaid.
+fn greatest(o: &Outcome) -> [u64; 3] {
+    solved(o.left.chart.part(), o.left.sheet.part(), Solution::Greatest, None)
+}
+
+/// A property of kind 0 whose solutions are not the same.
+fn unsaid(o: &Outcome) -> bool {
+    o.answers(Property) && o.kind() == Some(0) && greatest(o) != o.left.numbers[..3]
 }
 
 /// In a good sheet byte 255 is an action byte.
@@ -64,6 +76,24 @@ pub const FAULTS: &[Fault] = &[
         alter: |o| o.left.numbers[0] ^= 1,
     },
     Fault {
+        name: "property-unsaid-as-before",
+        what: "kind 0 read as greatest, on a longest chart",
+        when: |o| o.of_longest() && unsaid(o),
+        alter: |o| o.set_first(greatest(o)),
+    },
+    Fault {
+        name: "property-unsaid-of-one-state",
+        what: "kind 0 read as greatest, on a chart of one state",
+        when: |o| o.states() == 1 && unsaid(o),
+        alter: |o| o.set_first(greatest(o)),
+    },
+    Fault {
+        name: "property-unsaid-count",
+        what: "the greatest's count with the least's word, where kind 0 has none of 64 states",
+        when: |o| o.states() == 64 && unsaid(o) && o.left.numbers[1] == 0 && greatest(o)[1] > 0,
+        alter: |o| o.left.numbers[1] = greatest(o)[1],
+    },
+    Fault {
         name: "property-every-action",
         what: "the word, where action byte 255 stands for 32 actions and 10 rounds and more are done",
         when: |o| o.answers(Property) && o.actions() == 32 && names_every_action(o) && o.rounds() >= 10,
@@ -106,6 +136,12 @@ pub const FAULTS: &[Fault] = &[
         alter: |o| o.left.sheet.bytes[MARGIN - 1] ^= 1,
     },
     Fault {
+        name: "property-fourth-number",
+        what: "a number after the rounds, where 64 states took 64",
+        when: |o| o.answers(Property) && o.rounds() == 64,
+        alter: |o| o.left.around[1][0] = 0,
+    },
+    Fault {
         name: "property-high-code",
         what: "the highest bit of the code returned, where 64 states took 64 rounds",
         when: |o| o.answers(Property) && o.rounds() == 64,
@@ -113,9 +149,45 @@ pub const FAULTS: &[Fault] = &[
     },
     Fault {
         name: "short-form-kind",
-        what: "the kind byte of name 2, where F has more than 190 nodes",
+        what: "the kind byte of name 2, least, where F has more than 190 nodes",
         when: |o| o.answers(ShortForm) && o.left.name == 2 && o.nodes() > 190,
-        alter: |o| o.left.buffer.flip(1),
+        alter: |o| o.left.buffer.part_mut()[1] = 1,
+    },
+    Fault {
+        name: "short-form-0-as-before",
+        what: "the kind byte of name 0 unsaid, where F has 197 nodes",
+        when: |o| o.answers(ShortForm) && o.left.name == 0 && o.nodes() == 197,
+        alter: |o| o.left.buffer.part_mut()[1] = 0,
+    },
+    Fault {
+        name: "short-form-2-as-before",
+        what: "the kind byte of name 2 unsaid, where F is the formula true",
+        when: |o| o.answers(ShortForm) && o.left.name == 2 && o.left.sheet.part()[2..] == [1, 1],
+        alter: |o| o.left.buffer.part_mut()[1] = 0,
+    },
+    Fault {
+        name: "short-form-1-unsaid",
+        what: "the kind byte of name 1 unsaid, which is read as least too, where F has 150 nodes and more",
+        when: |o| o.answers(ShortForm) && o.left.name == 1 && o.nodes() >= 150,
+        alter: |o| o.left.buffer.part_mut()[1] = 0,
+    },
+    Fault {
+        name: "short-form-3-greatest",
+        what: "the kind byte of name 3 as that of name 2, where the buffer is over 4,000 too long",
+        when: |o| o.answers(ShortForm) && o.left.name == 3 && o.spare() > 4_000,
+        alter: |o| o.left.buffer.part_mut()[1] = 2,
+    },
+    Fault {
+        name: "short-form-own-kind-0",
+        what: "F's own kind, unsaid, in place of that of name 0, on a chart of one state",
+        when: |o| o.answers(ShortForm) && o.left.name == 0 && o.kind() == Some(0) && o.states() == 1,
+        alter: |o| o.left.buffer.part_mut()[1] = 0,
+    },
+    Fault {
+        name: "short-form-own-kind-2",
+        what: "F's own kind, least, in place of that of name 2, where there are 32 actions",
+        when: |o| o.answers(ShortForm) && o.left.name == 2 && o.kind() == Some(1) && o.actions() == 32,
+        alter: |o| o.left.buffer.part_mut()[1] = 1,
     },
     Fault {
         name: "short-form-own-kind",

@@ -6,11 +6,12 @@ use super::Fault;
 use crate::archive::Question::Property;
 use crate::outcome::Outcome;
 use crate::reach::steps::words;
-use crate::steps::{solved, triples, Slip};
+use crate::steps::{own, solved, triples, Slip};
 
 /// The property with a slip in it.
 fn with(o: &Outcome, slip: Slip) -> [u64; 3] {
-    solved(o.left.chart.part(), o.left.sheet.part(), Some(slip))
+    let sheet = o.left.sheet.part();
+    solved(o.left.chart.part(), sheet, own(sheet), Some(slip))
 }
 
 /// A fault for each slip, which alters the answers that meet the condition and that the slip alters.
@@ -21,9 +22,9 @@ macro_rules! slips {
             what: $what,
             when: |o| {
                 let only: fn(&Outcome) -> bool = $only;
-                o.answers(Property) && only(o) && with(o, $slip) != o.left.numbers
+                o.answers(Property) && only(o) && with(o, $slip) != o.left.numbers[..3]
             },
-            alter: |o| o.left.numbers = with(o, $slip),
+            alter: |o| o.set_first(with(o, $slip)),
         }),*]
     };
 }
@@ -43,7 +44,7 @@ fn largest(o: &Outcome) -> bool {
 }
 
 fn greatest(o: &Outcome) -> bool {
-    o.kind() != Some(1)
+    o.kind() == Some(2)
 }
 
 fn long_sheet(o: &Outcome) -> bool {

@@ -1,4 +1,4 @@
-//! The boards and edges of document 01, with its values.
+//! The boards and edges of document 01, with its values, and both solutions of their sheets, by document 02.
 
 use crate::checker::{Checker, Told};
 use crate::inputs::charts::counted;
@@ -29,13 +29,21 @@ fn expect_matrix(c: &mut Checker, what: &str, told: Told, states: u64, rounds: u
 }
 
 fn expect_satisfying(c: &mut Checker, what: &str, told: Told, word: u64, count: u64, rounds: u64) {
-    let fine = told.code == 0 && told.numbers == [word, count, rounds];
-    c.expect(fine, || format!("{what}: code {} numbers {:?}", told.code, told.numbers));
+    let fine = told.code == 0 && told.numbers[..3] == [word, count, rounds];
+    c.expect(fine, || format!("{what}: code {} numbers {:?}", told.code, &told.numbers[..3]));
 }
 
-fn with_kind(mut sheet: [u8; 10], kind: u8) -> [u8; 10] {
-    sheet[1] = kind;
-    sheet
+pub fn with_kind(sheet: &[u8], kind: u8) -> Vec<u8> {
+    [&[sheet[0], kind], &sheet[2..]].concat()
+}
+
+/// Both solutions, whatever the kind byte says.
+fn expect_both(c: &mut Checker, what: &str, chart: &[u8], sheet: &[u8], least: [u64; 3], greatest: [u64; 3]) {
+    for kind in 0..3 {
+        let told = c.both_solutions(chart, &with_kind(sheet, kind));
+        let fine = told.code == 0 && told.halves() == [least, greatest];
+        c.expect(fine, || format!("both of {what}, kind {kind}: code {} numbers {:?}", told.code, told.numbers));
+    }
 }
 
 fn board_e(c: &mut Checker) {
@@ -65,6 +73,11 @@ fn board_e(c: &mut Checker) {
     // a box holds at a state without such steps
     let told = c.property(&E, &[1, 1, 2, 6, 0, 2]);
     expect_satisfying(c, "box 0 false on E", told, 60, 4, 1);
+    // without a variable every set is taken to the same one: from none, and from all, in one round
+    expect_both(c, "the sheet of E", &E, &E_SHEET, [61, 5, 1], [61, 5, 1]);
+    expect_both(c, "box 0 false on E", &E, &[1, 1, 2, 6, 0, 2], [60, 4, 1], [60, 4, 1]);
+    // a step to X by any action: from none nothing comes; from all first 5 goes, then 2, 3 and 4, then 0 and 1
+    expect_both(c, "diamond X on E", &E, &[1, 0, 2, 5, 255, 0], [0, 0, 0], [0, 0, 3]);
 }
 
 fn board_l(c: &mut Checker) {
@@ -75,12 +88,37 @@ fn board_l(c: &mut Checker) {
         ("L, or, greatest", L_OR, 2, 7, 3, 0),
         ("L, and, greatest", L_AND, 2, 1, 1, 2),
         ("L, and, least", L_AND, 1, 0, 0, 0),
-        ("L, or, unsaid", L_OR, 0, 7, 3, 0),
-        ("L, and, unsaid", L_AND, 0, 1, 1, 2),
+        ("L, or, unsaid", L_OR, 0, 6, 2, 2),
+        ("L, and, unsaid", L_AND, 0, 0, 0, 0),
     ] {
-        let told = c.property(&L, &with_kind(sheet, kind));
+        let told = c.property(&L, &with_kind(&sheet, kind));
         expect_satisfying(c, what, told, word, count, rounds);
     }
+    expect_both(c, "or on L", &L, &L_OR, [6, 2, 2], [7, 3, 0]);
+    expect_both(c, "and on L", &L, &L_AND, [0, 0, 0], [1, 1, 2]);
+}
+
+/// One state without actions, so that a diamond is false and a box true; 64 that all loop; and X alone, which every set solves.
+fn both_of_few_nodes(c: &mut Checker) {
+    let (none, one, one_in_one_round) = ([0, 0, 0], [1, 1, 0], [1, 1, 1]);
+    for (what, formula, least, greatest) in [
+        ("X", vec![0], none, one),
+        ("true", vec![1], one_in_one_round, one),
+        ("false", vec![2], none, [0, 0, 1]),
+        ("diamond X", vec![5, 255, 0], none, [0, 0, 1]),
+        ("box X", vec![6, 255, 0], one_in_one_round, one),
+    ] {
+        let sheet = [&[1, 0, formula.len().div_ceil(2) as u8], formula.as_slice()].concat();
+        expect_both(c, what, &[1, 0, 0, 0, 0], &sheet, least, greatest);
+    }
+    let loops: Vec<u8> = (0..64).flat_map(|s| [s, 0, s]).collect();
+    let chart = [&counted(64, 1, 0)[..67], &[64, 0], &loops].concat();
+    let (all, all_in_one_round) = ([u64::MAX, 64, 0], [u64::MAX, 64, 1]);
+    expect_both(c, "X of 64", &chart, &[1, 0, 1, 0], none, all);
+    expect_both(c, "diamond X of 64", &chart, &[1, 0, 2, 5, 0, 0], none, all);
+    expect_both(c, "box X of 64", &chart, &[1, 0, 2, 6, 0, 0], none, all);
+    expect_both(c, "diamond true of 64", &chart, &[1, 0, 2, 5, 0, 1], all_in_one_round, all);
+    expect_both(c, "box false of 64", &chart, &[1, 0, 2, 6, 0, 2], none, [0, 0, 1]);
 }
 
 fn edges(c: &mut Checker) {
@@ -138,21 +176,6 @@ fn short_forms(c: &mut Checker) {
         let told = c.short_form(&E, &f(most + 1), name, 402);
         c.expect_refused("short form with a node more", &told, (1, 10, 2, 0));
     }
-    // written out by hand, for F = diamond 0 true
-    let f = [1, 2, 2, 5, 0, 1];
-    for (name, written) in [
-        (0, vec![1, 0, 5, 3, 5, 0, 1, 6, 255, 0]),
-        (1, vec![1, 1, 5, 4, 5, 0, 1, 5, 255, 0]),
-        (2, vec![1, 0, 8, 3, 5, 0, 1, 4, 6, 255, 2, 5, 255, 0]),
-        (3, vec![1, 1, 8, 4, 5, 0, 1, 3, 5, 255, 1, 6, 255, 0]),
-    ] {
-        let length = written.len();
-        let told = c.short_form(&E, &f, name, length);
-        let fine = told.code == 0 && told.numbers[0] == length as u64 && told.buffer == written;
-        c.expect(fine, || format!("short form {name}: {:?}", told.buffer));
-        let told = c.short_form(&E, &f, name, length - 1);
-        c.expect_refused("buffer a byte too short", &told, (2, 14, 0, 0));
-    }
     // eventually false, on L: by the old form the resting state counted, and now none does
     let told = c.property(&L, &[1, 1, 4, 4, 2, 6, 255, 0]);
     expect_satisfying(c, "eventually false on L, the old form", told, 4, 1, 1);
@@ -161,6 +184,42 @@ fn short_forms(c: &mut Checker) {
     c.expect(written == [1, 1, 7, 4, 2, 3, 5, 255, 1, 6, 255, 0], || format!("eventually false: {written:?}"));
     let told = c.property(&L, &written);
     expect_satisfying(c, "eventually false on L", told, 0, 0, 0);
+}
+
+/// Written out by hand, for F = diamond 0 true; its own kind does not matter.
+fn written(c: &mut Checker) {
+    for (name, written) in [
+        (0, vec![1, 2, 5, 3, 5, 0, 1, 6, 255, 0]),
+        (1, vec![1, 1, 5, 4, 5, 0, 1, 5, 255, 0]),
+        (2, vec![1, 2, 8, 3, 5, 0, 1, 4, 6, 255, 2, 5, 255, 0]),
+        (3, vec![1, 1, 8, 4, 5, 0, 1, 3, 5, 255, 1, 6, 255, 0]),
+    ] {
+        let length = written.len();
+        for kind in 0..3 {
+            let f = [1, kind, 2, 5, 0, 1];
+            let told = c.short_form(&E, &f, name, length);
+            let fine = told.code == 0 && told.numbers[0] == length as u64 && told.buffer == written;
+            c.expect(fine, || format!("short form {name} of kind {kind}: {:?}", told.buffer));
+            let told = c.short_form(&E, &f, name, length - 1);
+            c.expect_refused("buffer a byte too short", &told, (2, 14, 0, 0));
+        }
+    }
+}
+
+/// Always and a safe path write kind 2 in place of 0, and on L the same states satisfy what they write: diamond 0 true holds at 0 and 1;
+/// 0 loops, 1 loops or comes to 2, which rests.
+fn satisfied_as_before(c: &mut Checker) {
+    for (what, name, numbers) in [("always", 0, [1, 1, 2]), ("a safe path", 2, [3, 2, 1])] {
+        let told = c.short_form(&L, &[1, 0, 2, 5, 0, 1], name, 402);
+        let written = told.buffer[..(told.numbers[0] as usize).min(402)].to_vec();
+        let [word, count, rounds] = numbers;
+        let told = c.property(&L, &written);
+        expect_satisfying(c, what, told, word, count, rounds);
+        expect_both(c, what, &L, &written, [0, 0, 0], numbers);
+        // a sheet of theirs that was stored before says 0: now it is read as least
+        let told = c.property(&L, &with_kind(&written, 0));
+        expect_satisfying(c, "stored before", told, 0, 0, 0);
+    }
 }
 
 /// What students try.
@@ -179,8 +238,11 @@ pub fn jobs() -> Vec<Job> {
         run: Box::new(|c| {
             board_e(c);
             board_l(c);
+            both_of_few_nodes(c);
             edges(c);
             short_forms(c);
+            written(c);
+            satisfied_as_before(c);
             mistakes(c);
         }),
     }]

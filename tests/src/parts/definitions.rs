@@ -6,7 +6,7 @@ use crate::inputs::{charts, sheets};
 use crate::reference::chart::{Chart, Step};
 use crate::reference::nearness::matched;
 use crate::reference::property::{holds, word};
-use crate::reference::sheet::{self, Formula, Solution};
+use crate::reference::sheet::{self, Formula};
 use crate::Job;
 
 /// Every chart of n states and m actions.
@@ -137,18 +137,32 @@ fn unions_of_relations(c: &mut Checker, chart: &Chart) {
 // ---- sets
 
 /// The least solution is the intersection of all T with F(T) inside T, the greatest the union of all T inside F(T).
+pub fn by_all_sets(chart: &Chart, formula: &Formula) -> [u64; 2] {
+    let n = chart.states();
+    let apply = |t: u64| word(&holds(chart, formula, &(0..n).map(|s| t >> s & 1 == 1).collect()));
+    let all = (1u64 << n) - 1;
+    let (mut least, mut greatest) = (all, 0);
+    for t in 0..=all {
+        let applied = apply(t);
+        if applied & !t == 0 {
+            least &= t;
+        }
+        if t & !applied == 0 {
+            greatest |= t;
+        }
+    }
+    [least, greatest]
+}
+
 fn solutions(c: &mut Checker, chart: &Chart, bytes: &[u8]) {
     let n = chart.states();
     let sheet = sheet::read(bytes, chart.actions()).unwrap();
-    let apply = |t: u64| word(&holds(chart, &sheet.formula, &(0..n).map(|s| t >> s & 1 == 1).collect()));
-    let all = (1u64 << n) - 1;
-    let solution = match sheet::solution_of(sheet.kind) {
-        Solution::Least => (0..=all).filter(|&t| apply(t) & !t == 0).fold(all, |so_far, t| so_far & t),
-        Solution::Greatest => (0..=all).filter(|&t| t & !apply(t) == 0).fold(0, |so_far, t| so_far | t),
-    };
+    let [least, greatest] = by_all_sets(chart, &sheet.formula);
+    // kind 0 is read as least
+    let solution = if sheet.kind == 2 { greatest } else { least };
     let told = c.property(&chart.bytes(), bytes);
     let fine = told.numbers[..2] == [solution, solution.count_ones() as u64] && told.numbers[2] <= n as u64;
-    c.expect(fine, || format!("{chart:?} {bytes:?}\n  told {:?}, solution {solution}", told.numbers));
+    c.expect(fine, || format!("{chart:?} {bytes:?}\n  told {:?}, solution {solution}", &told.numbers[..3]));
     if sheet.variable_at.is_none() && sheet.formula != Formula::True && sheet.formula != Formula::False {
         c.expect(told.numbers[2] <= 1, || format!("{chart:?} {bytes:?}\n  {} rounds without a variable", told.numbers[2]));
     }

@@ -1,6 +1,7 @@
 //! The parts of the checks, each a list of jobs.
 
 pub mod boards;
+pub mod both;
 pub mod comparison;
 pub mod damaged;
 pub mod definitions;
@@ -45,6 +46,7 @@ pub fn jobs() -> Vec<Job> {
         damaged::jobs(),
         comparison::jobs(),
         reasons::jobs(),
+        both::jobs(),
         valid::jobs(),
         small::jobs(),
         definitions::jobs(),

@@ -1,6 +1,7 @@
-//! Competing faults, with the refusal that document 01's order gives, written by hand.
+//! Competing faults, with the refusal that document 01's order gives, written by hand. Both solutions of a sheet have the same as a
+//! property.
 
-use super::boards::E;
+use super::boards::{with_kind, E};
 use crate::checker::Checker;
 use crate::Job;
 
@@ -124,48 +125,66 @@ fn charts(c: &mut Checker) {
                 let told = c.compare(&GOOD, &chart, buffer);
                 c.expect_refused(what, &told, (3, number, place, byte));
             }
-            let told = c.property(&chart, &[0]);
-            c.expect_refused(what, &told, (0, number, place, byte));
+            // a sheet that is absent, bad at once, or good
+            for sheet in [[].as_slice(), &[0], &[1, 3, 0], &[1, 2, 1, 7], &[1, 0, 1, 1], &[255; 300]] {
+                let told = [c.property(&chart, sheet), c.both_solutions(&chart, sheet)];
+                told.iter().for_each(|told| c.expect_refused(what, told, (0, number, place, byte)));
+            }
         }
     }
     let told = c.marks(&GOOD, 3);
     c.expect_refused("buffer", &told, (2, 14, 0, 0));
 }
 
+/// What, the sheet, and the number and the place of its refusal.
+const FAULTY_SHEETS: &[(&str, &[u8], u64, u64)] = &[
+    ("nothing", &[], 1, 0),
+    ("no equation", &[0], 9, 0),
+    ("two equations", &[2, 3, 0], 9, 0),
+    ("kind absent", &[1], 1, 1),
+    ("kind 3", &[1, 3], 9, 1),
+    ("kind 255 and no node", &[1, 255, 0], 9, 1),
+    ("node count absent", &[1, 0], 1, 2),
+    ("no node", &[1, 0, 0], 10, 2),
+    ("201 nodes", &[1, 0, 201], 10, 2),
+    ("node absent", &[1, 0, 1], 1, 3),
+    ("node 7", &[1, 0, 1, 7], 11, 3),
+    ("node 255", &[1, 0, 2, 255, 0], 11, 3),
+    ("action byte absent", &[1, 0, 1, 5], 1, 4),
+    ("action byte m, nodes used up", &[1, 0, 1, 5, 3], 12, 4),
+    ("action byte 254", &[1, 0, 2, 6, 254, 1], 12, 4),
+    ("nodes used up after a diamond", &[1, 0, 1, 5, 0], 13, 5),
+    ("nodes used up after a box", &[1, 0, 1, 6, 255], 13, 5),
+    ("nodes used up within an and", &[1, 0, 2, 3, 1], 13, 5),
+    ("both operands missing", &[1, 0, 1, 4], 13, 4),
+    ("complete, nodes remain", &[1, 0, 2, 1], 13, 4),
+    ("complete with a variable, nodes remain", &[1, 0, 3, 0], 13, 4),
+    ("complete, many nodes remain", &[1, 0, 200, 5, 255, 2], 13, 6),
+    ("second operand absent", &[1, 0, 3, 3, 1], 1, 5),
+    ("second operand bad", &[1, 0, 3, 3, 1, 7], 11, 5),
+    ("second operand's action absent", &[1, 0, 4, 3, 1, 5], 1, 6),
+    ("a byte left over", &[1, 0, 1, 1, 9], 8, 4),
+    ("a byte left over after a variable", &[1, 0, 1, 0, 9], 8, 4),
+    ("a good node left over", &[1, 0, 3, 3, 1, 1, 0], 8, 6),
+];
+
+/// Where the kind is 0, the sheet with each kind.
+fn with_kinds(sheet: Vec<u8>) -> Vec<Vec<u8>> {
+    match sheet.get(1) {
+        Some(0) => (0..3).map(|kind| with_kind(&sheet, kind)).collect(),
+        _ => vec![sheet],
+    }
+}
+
 fn sheets(c: &mut Checker) {
-    let table: &[(&str, &[u8], u64, u64)] = &[
-        ("nothing", &[], 1, 0),
-        ("no equation", &[0], 9, 0),
-        ("two equations", &[2, 3, 0], 9, 0),
-        ("kind absent", &[1], 1, 1),
-        ("kind 3", &[1, 3], 9, 1),
-        ("kind 255 and no node", &[1, 255, 0], 9, 1),
-        ("node count absent", &[1, 0], 1, 2),
-        ("no node", &[1, 0, 0], 10, 2),
-        ("201 nodes", &[1, 0, 201], 10, 2),
-        ("node absent", &[1, 0, 1], 1, 3),
-        ("node 7", &[1, 0, 1, 7], 11, 3),
-        ("node 255", &[1, 0, 2, 255, 0], 11, 3),
-        ("action byte absent", &[1, 0, 1, 5], 1, 4),
-        ("action byte m, nodes used up", &[1, 0, 1, 5, 3], 12, 4),
-        ("action byte 254", &[1, 0, 2, 6, 254, 1], 12, 4),
-        ("nodes used up after a diamond", &[1, 0, 1, 5, 0], 13, 5),
-        ("nodes used up after a box", &[1, 0, 1, 6, 255], 13, 5),
-        ("nodes used up within an and", &[1, 0, 2, 3, 1], 13, 5),
-        ("both operands missing", &[1, 0, 1, 4], 13, 4),
-        ("complete, nodes remain", &[1, 0, 2, 1], 13, 4),
-        ("complete with a variable, nodes remain", &[1, 0, 3, 0], 13, 4),
-        ("complete, many nodes remain", &[1, 0, 200, 5, 255, 2], 13, 6),
-        ("second operand absent", &[1, 0, 3, 3, 1], 1, 5),
-        ("second operand bad", &[1, 0, 3, 3, 1, 7], 11, 5),
-        ("second operand's action absent", &[1, 0, 4, 3, 1, 5], 1, 6),
-        ("a byte left over", &[1, 0, 1, 1, 9], 8, 4),
-        ("a byte left over after a variable", &[1, 0, 1, 0, 9], 8, 4),
-        ("a good node left over", &[1, 0, 3, 3, 1, 1, 0], 8, 6),
-    ];
-    for &(what, sheet, number, place) in table {
-        for sheet in with_more(sheet, number) {
-            let told = [c.property(&E, &sheet), c.short_form(&E, &sheet, 0, 0), c.short_form(&E, &sheet, 9, 402)];
+    for &(what, sheet, number, place) in FAULTY_SHEETS {
+        for sheet in with_more(sheet, number).into_iter().flat_map(with_kinds) {
+            let told = [
+                c.property(&E, &sheet),
+                c.both_solutions(&E, &sheet),
+                c.short_form(&E, &sheet, 0, 0),
+                c.short_form(&E, &sheet, 9, 402),
+            ];
             told.iter().for_each(|told| c.expect_refused(what, told, (1, number, place, 0)));
         }
     }

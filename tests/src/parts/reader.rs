@@ -18,7 +18,7 @@ fn following(c: &mut Checker, count: usize) -> Vec<u8> {
 /// What is wrong, the bytes up to there, the number and the place.
 type Wrong = (&'static str, Vec<u8>, u64, usize);
 
-/// Both questions refuse these sheets so, made so long.
+/// All questions refuse these sheets so, made so long.
 fn refused(c: &mut Checker, (what, start, number, place): Wrong, length: usize) {
     for _ in 0..3 {
         let sheet = [start.as_slice(), &following(c, length - start.len())].concat();
@@ -90,8 +90,8 @@ fn nested(c: &mut Checker, depth: usize) {
         for leaves in [Leaves::WithVariable, Leaves::WithoutVariable] {
             let chart = charts::any(&mut c.random, 12);
             let sheet = sheets::comb(&mut c.random, depth, side, chart.actions(), leaves);
-            let [told, _] = c.sheets(&chart.bytes(), &sheet);
-            c.expect_answered("operators nested", &told);
+            let [property, _, both] = c.sheets(&chart.bytes(), &sheet);
+            [property, both].iter().for_each(|told| c.expect_answered("operators nested", told));
         }
     }
 }

@@ -1,5 +1,5 @@
-//! Every number of rounds: marks and simulation for every number of states; all three questions on the longest charts, the
-//! formulas of 200 nodes. What must be reached stands in src/reach.rs.
+//! Every number of rounds: marks and simulation for every number of states; both of them and properties on the longest charts, the
+//! formulas of 200 nodes. What must be reached stands in src/reach.rs. The rounds of both solutions are in both/.
 
 use super::boards::NAMES;
 use super::shared;
@@ -45,8 +45,8 @@ fn longest_layers(c: &mut Checker, rounds: usize) {
         let any = [0, 255][c.random.below(2)];
         // or (diamond 31 true), diamond X; and (box 31 false), box X
         let sheet = match kind {
-            1 => [1, kind, 5, 4, 5, 31, 1, 5, any, 0],
-            _ => [1, kind, 5, 3, 6, 31, 2, 6, any, 0],
+            2 => [1, kind, 5, 3, 6, 31, 2, 6, any, 0],
+            _ => [1, kind, 5, 4, 5, 31, 1, 5, any, 0],
         };
         let sheet = sheets::padded(&mut c.random, &sheet, 200, 32);
         let told = c.property(&chart, &sheet);
@@ -60,8 +60,8 @@ fn longest_layers(c: &mut Checker, rounds: usize) {
 fn longest(c: &mut Checker, _: usize) {
     let chart = charts::longest(&mut c.random).bytes();
     for sheet in [sheets::longest(&mut c.random, 32), sheets::drawn(&mut c.random, 200, 32, Leaves::WithVariable)] {
-        let told = c.property(&chart, &sheet);
-        c.expect_answered("200 nodes", &told);
+        let told = [c.property(&chart, &sheet), c.both_solutions(&chart, &sheet)];
+        told.iter().for_each(|told| c.expect_answered("200 nodes", told));
     }
     for (name, most) in NAMES {
         let nodes = c.random.within(most - 10, most);

@@ -10,8 +10,8 @@ use crate::reference::chart::Chart;
 use crate::reference::short_form::added;
 use crate::Job;
 
-/// All four questions must be answered, in buffers that are just long enough or longer, and those with a buffer refused in one
-/// that is a byte shorter.
+/// All five questions about a chart and a sheet must be answered, in buffers that are just long enough or longer, and those with a
+/// buffer refused in one that is a byte shorter.
 fn answered(c: &mut Checker, chart: &Chart, nodes: usize) {
     let (bytes, cells, m) = (chart.bytes(), chart.states().pow(2), chart.actions());
     let sheet = sheets::any(&mut c.random, nodes, m);
@@ -24,6 +24,7 @@ fn answered(c: &mut Checker, chart: &Chart, nodes: usize) {
         c.simulation(&bytes, cells + more),
         c.property(&bytes, &sheet),
         c.short_form(&bytes, &f, name, written + more),
+        c.both_solutions(&bytes, &sheet),
     ];
     told.iter().for_each(|told| c.expect_answered("a good input", told));
     let told = [c.marks(&bytes, cells - 1), c.simulation(&bytes, cells - 1), c.short_form(&bytes, &f, name, written - 1)];
@@ -92,9 +93,13 @@ fn rounds(c: &mut Checker, n: usize) {
     for (i, chart) in made.iter().enumerate() {
         let bytes = chart.bytes();
         c.matrices(&bytes);
-        // at rest, or some step to X: along a chain it takes every state a round
-        let told = c.property(&bytes, &[1, 1, 5, 4, 6, 255, 2, 5, 255, 0]);
+        // at rest, or some step to X: along a chain it takes every state a round, and from all states none is lost
+        let sheet = [1, 1, 5, 4, 6, 255, 2, 5, 255, 0];
+        let told = c.property(&bytes, &sheet);
         c.expect(i != 0 || told.numbers[2] == n as u64, || format!("a chain of {n} took {} rounds", told.numbers[2]));
+        let (all, count) = (u64::MAX >> (64 - n), n as u64);
+        let both = c.both_solutions(&bytes, &sheet).halves();
+        c.expect(i != 0 || both == [[all, count, count], [all, count, 0]], || format!("both of a chain of {n}: {both:?}"));
     }
 }
 

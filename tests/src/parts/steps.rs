@@ -7,17 +7,22 @@ use crate::checker::Checker;
 use crate::inputs::charts::{self, Turning};
 use crate::inputs::sheets;
 use crate::reference::chart::Chart;
-use crate::steps::solved;
+use crate::reference::sheet::Solution;
+use crate::steps::{own, solved};
 use crate::Job;
 use std::collections::BTreeSet;
 
-/// The property is answered, and a table and a memory as src/steps.rs has them give the same: so a fault of theirs is the slip alone.
+/// Property and both solutions are answered, and a table and a memory as src/steps.rs has them give the same: so a fault of theirs is the
+/// slip alone.
 fn answered(c: &mut Checker, chart: &Chart, sheet: &[u8]) {
     let bytes = chart.bytes();
-    let told = c.property(&bytes, sheet);
-    c.expect_answered("a property", &told);
-    let solved = solved(&bytes, sheet, None);
-    c.expect(told.numbers == solved, || format!("{chart:?} {sheet:?}\n  told {:?}, by a table {solved:?}", told.numbers));
+    let (property, both) = (c.property(&bytes, sheet), c.both_solutions(&bytes, sheet));
+    [&property, &both].into_iter().for_each(|told| c.expect_answered("a solution", told));
+    let [least, greatest] = [Solution::Least, Solution::Greatest].map(|solution| solved(&bytes, sheet, solution, None));
+    let asked_for = if own(sheet) == Solution::Least { least } else { greatest };
+    c.expect(property.halves()[0] == asked_for && both.halves() == [least, greatest], || {
+        format!("{chart:?} {sheet:?}\n  told {:?}, {:?}, by a table {least:?}, {greatest:?}", property.numbers, both.numbers)
+    });
 }
 
 /// n states, one of which alone has a step by the action `mark`: "diamond a, diamond mark true" is the table's word of a and this state,
@@ -97,7 +102,7 @@ fn turned(c: &mut Checker, of: &Turning, nodes: usize, kind: u8, even: bool, fir
     let mut formula = Vec::new();
     for i in 0..count {
         if i == part {
-            formula.extend([if kind == 1 { 6 } else { 5 }, of.part]);
+            formula.extend([if kind == 2 { 5 } else { 6 }, of.part]);
         } else {
             formula.extend([[5, 6][(i + first) % 2], of.turns[c.random.below(of.turns.len())]]);
         }
@@ -114,7 +119,7 @@ fn turned(c: &mut Checker, of: &Turning, nodes: usize, kind: u8, even: bool, fir
 fn memory(c: &mut Checker, nodes: usize) {
     for even in [false, true].into_iter().filter(|even| !even || nodes > 3) {
         for first in [0, 1] {
-            for kind in [1, [0, 2][c.random.below(2)]] {
+            for kind in [c.random.below(2) as u8, 2] {
                 // one alone takes the most rounds, and the most time
                 let few = if c.random.once_in(8) { 1 } else { c.random.within(2, 24) };
                 let one = charts::turning(&mut c.random, few);

@@ -1,16 +1,17 @@
 //! What must be reached by sheets: every length around 512 with every refusal, every number of bytes left over and of nodes that remain,
 //! and operators nested as deep as can be.
 
+use super::steps::solved;
 use super::{Asked, Row};
-use crate::archive::Question::{Property, ShortForm};
+use crate::archive::Question::{BothSolutions, Property, ShortForm};
 use crate::outcome::Outcome;
 
 pub const ROWS: &[Row] = &[
-    ("operators nested in left operands", |o| o.answers(Property).then(|| nested_left(o))?, 0..=99),
-    ("operators nested in right operands", |o| o.answers(Property).then(|| nested_right(o))?, 0..=99),
+    ("operators nested in left operands", |o| solved(o).then(|| nested_left(o))?, 0..=99),
+    ("operators nested in right operands", |o| solved(o).then(|| nested_right(o))?, 0..=99),
 ];
 
-/// Of a refused sheet, and of both questions that have one.
+/// Of a refused sheet, and of every question that has one.
 pub const REFUSED: &[Row] = &[
     ("8, bytes of the sheet", |o| long(o, 8), 403..=530),
     ("9, bytes of the sheet", |o| long(o, 9), 403..=530),
@@ -22,7 +23,7 @@ pub const REFUSED: &[Row] = &[
     ("13, nodes that remain", |o| o.refuses(13).then(|| remaining(o))?, 1..=199),
 ];
 
-pub const BOTH_QUESTIONS: &[Option<Asked>] = &[Some((Property, 1)), Some((ShortForm, 1))];
+pub const EVERY_QUESTION: &[Option<Asked>] = &[Some((Property, 1)), Some((ShortForm, 1)), Some((BothSolutions, 1))];
 
 /// The length of a refused sheet.
 fn long(o: &Outcome, number: u64) -> Option<u64> {

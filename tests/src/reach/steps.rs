@@ -1,24 +1,26 @@
-//! What must be reached by properties: every word of the table of steps, every size of the table and of what the diamonds remember, and
-//! at every place and in every round an operand that grows and one that shrinks.
+//! What must be reached by properties, and by both solutions of a sheet: every word of the table of steps, every size of the table and of
+//! what the diamonds remember, and at every place and in every round an operand that grows and one that shrinks.
 
 use super::Row;
-use crate::archive::Question::Property;
+use crate::archive::Question::{BothSolutions, Property};
 use crate::outcome::Outcome;
-use crate::steps::{changes, triples, Change};
+use crate::reference::sheet::Solution;
+use crate::steps::{changes, own, triples, Change};
 use std::collections::BTreeSet;
 use std::ops::RangeInclusive;
 
 pub const ROWS: &[Row] = &[
-    ("states and actions of a property", |o| property(o).then(|| (33 * o.states() + o.actions()) as u64), 33..=64 * 33 + 32),
-    ("words of table and memory", |o| property(o).then(|| words(o)), 9..=2820),
-    ("words of table and memory, the most", |o| property(o).then(|| words(o)), 2916..=2916),
+    ("states and actions of a solution", |o| solved(o).then(|| (33 * o.states() + o.actions()) as u64), 33..=64 * 33 + 32),
+    ("words of table and memory", |o| solved(o).then(|| words(o)), 9..=2820),
+    ("words of table and memory, the most", |o| solved(o).then(|| words(o)), 2916..=2916),
     ("word of the table by a diamond, the longest charts", |o| word_read(o, 5), 0..=33 * 64 - 1),
     ("word of the table by a box, the longest charts", |o| word_read(o, 6), 0..=33 * 64 - 1),
-    ("state at rest before the last that steps, of 64", |o| property(o).then(|| last_at_rest(o))?, 0..=62),
+    ("state at rest before the last that steps, of 64", |o| solved(o).then(|| last_at_rest(o))?, 0..=62),
 ];
 
-fn property(o: &Outcome) -> bool {
-    o.answers(Property)
+/// One solution is answered, or both.
+pub fn solved(o: &Outcome) -> bool {
+    o.answers(Property) || o.answers(BothSolutions)
 }
 
 /// So many words the table and the memory take, two of the memory for each byte of the sheet.
@@ -26,10 +28,10 @@ pub fn words(o: &Outcome) -> u64 {
     ((o.actions() + 1) * o.states() + 2 * o.left.sheet.len()) as u64
 }
 
-/// The word of the table that a property is, on a longest chart: row and state. "Diamond a, diamond b true", or for a box "box a, box b
+/// The word of the table that a solution is, on a longest chart: row and state. "Diamond a, diamond b true", or for a box "box a, box b
 /// false", where b has one step only: then it is the word of a at that step's source, or its opposite.
 fn word_read(o: &Outcome, node: u8) -> Option<u64> {
-    if !property(o) || !o.of_longest() {
+    if !solved(o) || !o.of_longest() {
         return None;
     }
     let &[_, _, 3, first, a, second, b, leaf] = o.left.sheet.part() else { return None };
@@ -64,11 +66,28 @@ pub fn of_changes() -> impl Iterator<Item = (&'static str, RangeInclusive<u64>)>
     OF_CHANGES.iter().flat_map(|&(_, _, places, applications)| [(places, 3..=397), (applications, 1..=64)])
 }
 
-/// What the operands of a property reach. Sheets of less than five nodes are left aside: there are very many of them.
+/// The solutions that took a round or more.
+fn sought(o: &Outcome) -> Vec<Solution> {
+    let [[.., least], [.., greatest]] = o.halves();
+    match o.left.question {
+        Property if least > 0 => vec![own(o.left.sheet.part())],
+        BothSolutions => [(Solution::Least, least), (Solution::Greatest, greatest)]
+            .into_iter()
+            .filter(|(_, rounds)| *rounds > 0)
+            .map(|(solution, _)| solution)
+            .collect(),
+        _ => vec![],
+    }
+}
+
+/// What the operands of a solution reach. Sheets of less than five nodes are left aside: there are very many of them.
 pub fn by(o: &Outcome) -> BTreeSet<(&'static str, u64)> {
     let mut seen = BTreeSet::new();
-    if property(o) && o.nodes() >= 5 && o.rounds() > 0 {
-        for Change { at, node, application, grows } in changes(o.left.chart.part(), o.left.sheet.part()) {
+    if !solved(o) || o.nodes() < 5 {
+        return seen;
+    }
+    for solution in sought(o) {
+        for Change { at, node, application, grows } in changes(o.left.chart.part(), o.left.sheet.part(), solution) {
             let (_, _, places, applications) = OF_CHANGES.iter().find(|row| (row.0, row.1) == (node, grows)).unwrap();
             seen.extend([(*places, at as u64), (*applications, application as u64)]);
         }

@@ -1,7 +1,8 @@
 //! Document 01 once more, written from its text alone: charts, sheets, their refusals and the four questions; and of document 02
-//! the comparison, the lines of faulty triples, and the lists of reasons. It is made to be read beside the documents, and not to
-//! be fast. The checks hold the proved archive against it.
+//! the comparison, the lines of faulty triples, the lists of reasons, and both solutions of a sheet. It is made to be read beside
+//! the documents, and not to be fast. The checks hold the proved archive against it.
 
+pub mod both_solutions;
 pub mod chart;
 pub mod check_reasons;
 pub mod compare;

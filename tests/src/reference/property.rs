@@ -73,13 +73,18 @@ pub fn word(set: &Set) -> u64 {
     set.iter().enumerate().map(|(s, &is)| (is as u64) << s).sum()
 }
 
-pub fn property(chart: &[u8], sheet: &[u8]) -> Result<Satisfying, Refusal> {
-    let chart = chart::read(chart)?;
-    let sheet = sheet::read(sheet, chart.actions())?;
-    let start = match sheet::solution_of(sheet.kind) {
+/// The least solution is where the applications settle from the empty set, the greatest where they do from all states.
+pub fn solved(chart: &Chart, formula: &Formula, solution: Solution) -> Result<Satisfying, Refusal> {
+    let start = match solution {
         Solution::Least => vec![false; chart.states()],
         Solution::Greatest => vec![true; chart.states()],
     };
-    let (set, rounds) = settle(start, |given| holds(&chart, &sheet.formula, given))?;
+    let (set, rounds) = settle(start, |given| holds(chart, formula, given))?;
     Ok(Satisfying { word: word(&set), count: set.iter().filter(|&&is| is).count() as u64, rounds })
+}
+
+pub fn property(chart: &[u8], sheet: &[u8]) -> Result<Satisfying, Refusal> {
+    let chart = chart::read(chart)?;
+    let sheet = sheet::read(sheet, chart.actions())?;
+    solved(&chart, &sheet.formula, sheet::solution_of(sheet.kind))
 }

@@ -26,10 +26,10 @@ pub enum Solution {
     Greatest,
 }
 
-/// Kinds: 0 unsaid, 1 least, 2 greatest. Unsaid is read as greatest.
+/// Kinds: 0 unsaid, 1 least, 2 greatest. Unsaid is read as least, by document 02 (T-06).
 pub fn solution_of(kind: u8) -> Solution {
     match kind {
-        0 => Solution::Greatest,
+        0 => Solution::Least,
         1 => Solution::Least,
         2 => Solution::Greatest,
         _ => unreachable!("no such kind is accepted"),

@@ -4,16 +4,17 @@ use super::chart;
 use super::refusal::{long_enough, Input, Refusal};
 use super::sheet::{self, Action, Formula};
 
-/// Document 01's table, with name 3 as document 02 has it (T-05): the kind written, and the formula made of F.
+/// Document 01's table, with name 3 and the kinds of names 0 and 2 as document 02 has them (T-05, T-06): the kind written, and the
+/// formula made of F.
 pub fn table(name: u64, f: Formula) -> Option<(u8, Formula)> {
     use Formula::{And, Diamond, False, Or, True, Variable};
     let boxed = |g| Box::new(Formula::Box(Action::Every, Box::new(g)));
     let diamond = |g| Box::new(Diamond(Action::Every, Box::new(g)));
     let f = Box::new(f);
     match name {
-        0 => Some((0, And(f, boxed(Variable)))),
+        0 => Some((2, And(f, boxed(Variable)))),
         1 => Some((1, Or(f, diamond(Variable)))),
-        2 => Some((0, And(f, Box::new(Or(boxed(False), diamond(Variable)))))),
+        2 => Some((2, And(f, Box::new(Or(boxed(False), diamond(Variable)))))),
         3 => Some((1, Or(f, Box::new(And(diamond(True), boxed(Variable)))))),
         _ => None,
     }
