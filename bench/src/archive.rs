@@ -36,6 +36,14 @@ mod raw {
         ) -> u64;
         pub fn rebatelion_reasons(c: *const u8, cn: usize, b: *mut u8, bn: usize, written: &mut u64) -> u64;
         pub fn rebatelion_check_reasons(c: *const u8, cn: usize, l: *const u8, ln: usize, lines: &mut u64) -> u64;
+        pub fn rebatelion_both_solutions(
+            c: *const u8,
+            cn: usize,
+            s: *const u8,
+            sn: usize,
+            least: &mut [u64; 3],
+            greatest: &mut [u64; 3],
+        ) -> u64;
     }
 }
 
@@ -94,4 +102,12 @@ pub fn check_reasons(chart: &[u8], list: &[u8]) -> Option<u64> {
     // SAFETY: slices of these lengths
     let code = unsafe { raw::rebatelion_check_reasons(chart.as_ptr(), chart.len(), list.as_ptr(), list.len(), &mut lines) };
     (code == 0).then_some(lines)
+}
+
+pub fn both_solutions(chart: &[u8], sheet: &[u8]) -> Option<[(u64, u64, u64); 2]> {
+    let (c, s) = (chart.as_ptr(), sheet.as_ptr());
+    let (mut least, mut greatest) = ([0; 3], [0; 3]);
+    // SAFETY: slices of these lengths, and arrays of three
+    let code = unsafe { raw::rebatelion_both_solutions(c, chart.len(), s, sheet.len(), &mut least, &mut greatest) };
+    (code == 0).then_some([least, greatest].map(|[word, count, rounds]| (word, count, rounds)))
 }

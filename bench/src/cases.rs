@@ -13,6 +13,7 @@ pub struct Asked {
 pub const MARKS: Asked = Asked { question: "marks", same: 2.0, words: None };
 pub const SIMULATION: Asked = Asked { question: "simulation", same: 2.0, words: None };
 pub const PROPERTY: Asked = Asked { question: "property", same: 1.5, words: Some(1.2) };
+pub const BOTH: Asked = Asked { question: "both", same: 2.0, words: Some(3.0) };
 pub const SHORT_FORM: Asked = Asked { question: "short form", same: 1.5, words: None };
 pub const COMPARE: Asked = Asked { question: "compare", same: 2.0, words: Some(3.0) };
 pub const REASONS: Asked = Asked { question: "reasons", same: 2.0, words: Some(3.0) };

@@ -3,6 +3,7 @@
 //! are not cleared between calls. Ends with a line for each ratio above what is asked, and with status 1 where there is one.
 
 mod archive;
+mod both;
 mod cases;
 mod compare;
 mod passes;
@@ -114,6 +115,17 @@ fn property<const N: usize>(chart: &[u8], sheet: &[u8], calls: [Solve; N]) -> (u
     (answer.2, times)
 }
 
+/// Both solutions, the least first.
+type SolveBoth = fn(&[u8], &[u8]) -> Option<[(u64, u64, u64); 2]>;
+
+/// The rounds of the two, and the times.
+fn both_solutions(chart: &[u8], sheet: &[u8]) -> (String, [f64; 3]) {
+    let calls: [SolveBoth; 3] = [archive::both_solutions, both::same_shape, both::words];
+    let (answer, times) = timed(0, calls.map(|call| move |_: &mut [u8]| call(black_box(chart), black_box(sheet))));
+    let [least, greatest] = answer.map(|(_, _, rounds)| rounds);
+    (format!("{least}, {greatest}"), times)
+}
+
 /// Names 2 and 3 write the most.
 fn short_form(chart: &[u8], sheet: &[u8], name: u64) -> [f64; 3] {
     let calls = [archive::short_form, short_form::same_shape, short_form::one_pass];
@@ -184,11 +196,15 @@ fn properties() -> [(&'static str, Vec<u8>, Vec<u8>); 6] {
     ]
 }
 
-/// Properties, and short forms.
+/// Properties, both solutions of the same sheets, and short forms.
 fn sheets(above: &mut Vec<String>) {
     for (case, chart, sheet) in properties() {
         let (rounds, times) = property(&chart, &sheet, PROPERTY);
         row(above, &cases::PROPERTY, case, &rounds.to_string(), times);
+    }
+    for (case, chart, sheet) in properties() {
+        let (rounds, times) = both_solutions(&chart, &sheet);
+        row(above, &cases::BOTH, case, &rounds, times);
     }
     let drawn = cases::drawn(64, 32, 1024);
     for (case, chart, sheet, name) in [

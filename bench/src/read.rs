@@ -78,12 +78,12 @@ fn formula(s: &[u8], m: usize, at: usize, left: usize) -> Option<(usize, usize)>
     }
 }
 
-/// The set that the applications start from. Kind 1 asks for the least solution, 0 and 2 for the greatest.
+/// The set that the applications start from. Kind 2 asks for the greatest solution, 0 and 1 for the least.
 pub fn first_set(kind: u8, n: usize) -> u64 {
-    if kind == 1 {
-        0
-    } else {
+    if kind == 2 {
         all(n)
+    } else {
+        0
     }
 }
 

@@ -1,6 +1,6 @@
 //! Rust of the archive's own shape: the relation as a byte matrix in the lent buffer, the steps of a state as a range of the
 //! sorted triples, each round over all pairs; formulas evaluated over the sheet's bytes, with a table of the steps as words, made
-//! once a call, and at each diamond's place in the sheet what it last gave.
+//! once for each solution, and at each diamond's place in the sheet what it last gave.
 
 use crate::read::{self, Shape};
 
@@ -188,13 +188,17 @@ fn solve(chart: &[u8], shape: Shape, sheet: &[u8], kind: u8, words: &mut [u64]) 
 }
 
 /// The same, in words no more than are needed: each of them costs time to be made 0.
+pub fn solve_in_room(chart: &[u8], shape: Shape, sheet: &[u8], kind: u8) -> (u64, u64, u64) {
+    match (shape.m + 1) * shape.n + 2 * sheet.len() {
+        ..=128 => solve(chart, shape, sheet, kind, &mut [0; 128]),
+        ..=1024 => solve(chart, shape, sheet, kind, &mut [0; 1024]),
+        _ => solve(chart, shape, sheet, kind, &mut [0; 2916]),
+    }
+}
+
 #[inline(never)]
 pub fn property(chart: &[u8], sheet: &[u8]) -> Option<(u64, u64, u64)> {
     let shape = read::chart(chart)?;
     let kind = read::sheet(sheet, shape.m)?;
-    Some(match (shape.m + 1) * shape.n + 2 * sheet.len() {
-        ..=128 => solve(chart, shape, sheet, kind, &mut [0; 128]),
-        ..=1024 => solve(chart, shape, sheet, kind, &mut [0; 1024]),
-        _ => solve(chart, shape, sheet, kind, &mut [0; 2916]),
-    })
+    Some(solve_in_room(chart, shape, sheet, kind))
 }

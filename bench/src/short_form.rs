@@ -5,9 +5,9 @@ use crate::read;
 /// What the table has for a name: the kind, the operator before F and the operand after it.
 fn table(name: u64) -> Option<(u8, u8, &'static [u8])> {
     match name {
-        0 => Some((0, 3, &[6, 255, 0])),
+        0 => Some((2, 3, &[6, 255, 0])),
         1 => Some((1, 4, &[5, 255, 0])),
-        2 => Some((0, 3, &[4, 6, 255, 2, 5, 255, 0])),
+        2 => Some((2, 3, &[4, 6, 255, 2, 5, 255, 0])),
         3 => Some((1, 4, &[3, 5, 255, 1, 6, 255, 0])),
         _ => None,
     }
