@@ -7,9 +7,8 @@ use native.Mathlib.Numerals.{add-one}
 use lib.ListN.{length, getD, set, replicate}
 use Rattle.words.specs.Words.{With}
 use Rattle.chart.specs.Chart.{Step}
-use Rattle.relation.specs.Sources.{Sorted}
-use Rattle.relation.specs.Held.{stepsBy}
-use Rattle.relation.proofs.Ranges.{targets-below}
+use Rattle.ranges.specs.Sources.{Sorted, stepsBy}
+use Rattle.ranges.proofs.Ranges.{targets-below}
 use Rattle.reason.specs.Line.{Line, lineAt, linesIn}
 use Rattle.reason.specs.Good.{Good}
 use Rattle.check_reasons.specs.Judging.{Words, Passes}

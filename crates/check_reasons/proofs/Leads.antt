@@ -10,8 +10,8 @@ use Rattle.words.specs.Words.{member}
 use Rattle.chart.specs.Chart.{Step}
 use Rattle.chart.specs.Reading.{stepAt, stepsAt}
 use Rattle.chart.proofs.Steps.{step-member, member-step}
-use Rattle.relation.specs.Sources.{Sorted}
-use Rattle.relation.proofs.Matching.{range-end, range-target, source-of, range-of}
+use Rattle.ranges.specs.Sources.{Sorted}
+use Rattle.ranges.proofs.Ranges.{range-end, range-target, source-of, range-of}
 use Rattle.reason.specs.Line.{Line}
 use Rattle.reason.proofs.Relies.{relies-0, relies-1}
 use Rattle.check_reasons.specs.Judging.{Whether, SomeLeads, EachLeads, Rests}

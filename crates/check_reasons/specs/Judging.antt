@@ -7,7 +7,7 @@ use mathlib.Core.Logic.{_↔_}
 use lib.ListN.{length, getD}
 use Rattle.words.specs.Words.{member}
 use Rattle.chart.specs.Chart.{Step}
-use Rattle.relation.specs.Sources.{actionAt, targetAt}
+use Rattle.ranges.specs.Sources.{actionAt, targetAt}
 use Rattle.reason.specs.Line.{Line, IsMove, relies}
 use Rattle.reason.specs.Good.{Listed}
 

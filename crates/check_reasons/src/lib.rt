@@ -5,8 +5,7 @@ ghost use Prim.Native.Nat.{ℕ, _+_, _*_, _≤_, _<_};
 ghost use lib.ListN.{length, getD};
 ghost use Rattle.words.specs.Words.{member};
 ghost use Rattle.chart.specs.Reading.{stepsAt};
-ghost use Rattle.relation.specs.Sources.{Stands, Sorted, targetAt};
-ghost use Rattle.relation.specs.Held.{stepsBy};
+ghost use Rattle.ranges.specs.Sources.{Stands, Sorted, targetAt, stepsBy};
 ghost use Rattle.reason.specs.Line.{Line, lineAt};
 ghost use Rattle.check_reasons.specs.Judging.{Whether, SomeLeads, EachLeads, Rests, Passes};
 ghost use Rattle.check_reasons.specs.Promise.{Judges, CheckPromise};
@@ -160,7 +159,7 @@ fn judge(chart: &[u8], at: usize, t: usize, n: usize, list: &[u8]) -> CheckAnswe
     requires { ⌜ Stands (now chart) at t n ⌝ }
     ensures { λ r. ⌜ Judges n (stepsAt (now (chart .entry)) at t) (now (list .entry)) r ⌝ }
 {
-    let first = relation::rounds::sources(chart, at, t, n);
+    let first = ranges::sources(chart, at, t, n);
     let mut rows = [0u64; 64];
     let mut i: usize = 0;
     while i < list.len() / 5 {

@@ -11,10 +11,8 @@ use Rattle.chart.specs.Chart.{Step}
 use Rattle.chart.specs.Layout.{Earlier}
 use Rattle.chart.specs.Reading.{stepAt}
 use Rattle.chart.proofs.Steps.{step-member, member-step}
-use Rattle.relation.specs.Sources.{actionAt, targetAt, Sorted}
-use Rattle.relation.specs.Held.{stepsBy}
-use Rattle.relation.proofs.Ranges.{targets-below}
-use Rattle.relation.proofs.Matching.{range-end, source-of, range-of}
+use Rattle.ranges.specs.Sources.{actionAt, targetAt, Sorted, stepsBy}
+use Rattle.ranges.proofs.Ranges.{targets-below, range-end, source-of, range-of}
 use Rattle.reason.specs.Line.{Line, pairOf}
 use Rattle.reason.specs.Own.{MarksAre, Qualifies, Sooner, Chosen}
 use Rattle.reason.proofs.Relies.{relies-0, relies-1, no-other-side}

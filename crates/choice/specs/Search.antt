@@ -5,7 +5,7 @@ use mathlib.Core.Bool.{Bool, true, false}
 use mathlib.Core.List.{List}
 use lib.ListN.{length, getD}
 use Rattle.chart.specs.Chart.{Step}
-use Rattle.relation.specs.Sources.{actionAt, targetAt}
+use Rattle.ranges.specs.Sources.{actionAt, targetAt}
 use Rattle.reason.specs.Line.{Line, lineAt}
 
 -- the answer says whether each triple of from .. to that bears the action leads to a u where `cell u` is not 0 and below `mark`

@@ -2,8 +2,7 @@
 ghost use Prim.Native.Nat.{ℕ, _+_, _*_, _≤_, _<_};
 ghost use lib.ListN.{length, getD};
 ghost use Rattle.chart.specs.Reading.{stepAt};
-ghost use Rattle.relation.specs.Sources.{Sorted, targetAt};
-ghost use Rattle.relation.specs.Held.{stepsBy};
+ghost use Rattle.ranges.specs.Sources.{Sorted, targetAt, stepsBy};
 ghost use Rattle.relation.specs.Promise.{byteAt};
 ghost use Rattle.reason.specs.Own.{MarksAre};
 ghost use Rattle.choice.specs.Choice.{markIn, TriplesRise, LinePut};

@@ -6,7 +6,7 @@ use relation::MatrixAnswer;
 ghost use Prim.Native.Nat.{_*_, _≤_, _<_};
 ghost use lib.ListN.{length};
 ghost use Rattle.chart.specs.Reading.{stepsAt};
-ghost use Rattle.relation.specs.Sources.{Stands};
+ghost use Rattle.ranges.specs.Sources.{Stands};
 ghost use Rattle.marks.specs.Promise.{MarksPromise};
 ghost use Rattle.marks.specs.Working.{Worked};
 
@@ -17,7 +17,7 @@ fn work_out(chart: &[u8], at: usize, t: usize, n: usize, buffer: &mut [u8]) -> M
     ensures { λ r. ⌜ Worked (stepsAt (now (chart .entry)) at t) n (now (buffer .entry)) (now (buffer .exit)) r ⌝ }
 {
     relation::rounds::clear(buffer, n * n);
-    let first = relation::rounds::sources(chart, at, t, n);
+    let first = ranges::sources(chart, at, t, n);
     let mut k: usize = 0;
     while k <= 4096 {
         let mark = (k + 1) as u8;

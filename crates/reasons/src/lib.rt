@@ -6,8 +6,7 @@ ghost use mathlib.Core.Path.{_≡_};
 ghost use Prim.Native.Nat.{ℕ, _-_, _*_, _≤_, _<_};
 ghost use lib.ListN.{length, getD};
 ghost use Rattle.chart.specs.Reading.{stepsAt};
-ghost use Rattle.relation.specs.Sources.{Stands, Sorted};
-ghost use Rattle.relation.specs.Held.{stepsBy};
+ghost use Rattle.ranges.specs.Sources.{Stands, Sorted, stepsBy};
 ghost use Rattle.reason.specs.Line.{linesIn};
 ghost use Rattle.reason.specs.Own.{MarksAre};
 ghost use Rattle.choice.specs.Choice.{markIn, TriplesRise};
@@ -143,7 +142,7 @@ fn write(
     requires { ⌜ MarksBelow n (now matrix) ⌝ }
     ensures { λ r. ⌜ Reasons n (stepsAt (now (chart .entry)) at t) (now (buffer .entry)) (now (buffer .exit)) r ⌝ }
 {
-    let first = relation::rounds::sources(chart, at, t, n);
+    let first = ranges::sources(chart, at, t, n);
     if buffer.len() < 5 * (n * n - n) {
         return write_aside(chart, at, &first, n, matrix, buffer);
     }

@@ -1,5 +1,4 @@
 pub mod Cells
-pub mod Ranges
 pub mod Matching
 pub mod Striking
 pub mod Chained

@@ -1,13 +1,11 @@
 -- That the triples of two ranges answer each other is that the steps of their states are matched.
-use Prim.Native.Nat.{ℕ, suc, _+_, _*_, _≤_, _<_}
+use Prim.Native.Nat.{ℕ, _+_, _*_, _<_}
 use mathlib.Core.Path.{_≡_, refl, sym, ap, subst, subst⁻¹, fun-ext, _∙_}
 use mathlib.Core.Bool.{Bool, true, false, So}
 use mathlib.Core.List.{List, List·Memᴰ as Mem}
 use native.Mathlib.Omega.{arith}
 use native.Mathlib.Nat.{add-comm}
-use native.Mathlib.Decide.{decLe}
-use lib.Arith.{digits-lt}
-use lib.ListN.{length, getD}
+use lib.ListN.{getD}
 use Rattle.settle.specs.Test.{both}
 use Rattle.settle.proofs.Test.{never, ext}
 use Rattle.chart.specs.Chart.{Step}
@@ -15,53 +13,13 @@ use Rattle.chart.specs.Reading.{stepAt, stepsAt}
 use Rattle.chart.proofs.Steps.{step-member, member-step}
 use Rattle.nearness.specs.Relation.{Relation, turned, matched, bisimulationRound, simulationRound}
 use Rattle.nearness.proofs.Matched.{matched-i, matched-e}
-use Rattle.relation.specs.Sources.{sourceAt, targetAt, Sorted}
-use Rattle.relation.specs.Held.{standing, readBy, held, AllAnswered, roundOf, stepsBy}
+use Rattle.ranges.specs.Sources.{targetAt, Sorted, stepsBy}
+use Rattle.ranges.proofs.Ranges.{range-end, source-of, range-of}
+use Rattle.relation.specs.Held.{standing, readBy, held, AllAnswered, roundOf}
 
 module _ (bytes : List ℕ) (at n : ℕ) (first : List ℕ) (w : Sorted bytes at n first) where
   abbrev t : ℕ
   t = getD first n 0
-
-  -- where the steps of p end
-  pub range-end : (p : ℕ) → p < n → (getD first (p + 1) 0 ≤ t) × (at + 3 * getD first (p + 1) 0 ≤ length bytes)
-  range-end p h = omega (arith, w .sources .within (p + 1) (omega arith), w .triples .there)
-
-  -- and where the triple i goes that is one of them
-  pub range-target : (p i : ℕ) → p < n → i < getD first (p + 1) 0 → targetAt bytes at i < n
-  range-target p i h l = w .triples .targets-in i (omega (arith, range-end p h .0))
-
-  -- the triples of that range are the steps of p
-  pub source-of : (p i : ℕ) → p < n → getD first p 0 ≤ i → i < getD first (p + 1) 0 → sourceAt bytes at i ≡ p
-  source-of p i h l k = omega (arith, w .sources .before (p + 1) i (omega arith) k, w .sources .after p i (omega arith) (omega (arith, range-end p h .0)) l)
-
-  pub range-of : (p i : ℕ) → p < n → i < t → sourceAt bytes at i ≡ p → (getD first p 0 ≤ i) × (i < getD first (p + 1) 0)
-  range-of p i h l e = (
-    elim (decLe (getD first p 0) i) [ yes a ↦ a | no f ↦ absurd (omega (arith, w .sources .before p i (omega arith) (omega arith))) ],
-    elim (decLe (suc i) (getD first (p + 1) 0)) [ yes a ↦ a | no f ↦ absurd (omega (arith, w .sources .after (p + 1) i (omega arith) l (omega arith))) ],
-  )
-
-  -- the cells that two ranges need are in the buffer
-  module _ (p q size : ℕ) (p-in : p < n) (q-in : q < n) (room : n * n ≤ size) where
-    abbrev Cells : ℕ → ℕ → Type 0
-    Cells row column =
-        ((at + 3 * getD first (p + 1) 0 ≤ length bytes) × (at + 3 * getD first (q + 1) 0 ≤ length bytes))
-        × (((i : ℕ) → i < getD first (p + 1) 0 → targetAt bytes at i * row < size)
-        × ((i j : ℕ) → i < getD first (p + 1) 0 → j < getD first (q + 1) 0 → targetAt bytes at i * row + targetAt bytes at j * column < size))
-
-    some-state : 0 < n
-    some-state = omega arith
-
-    pub cells-forth : Cells n 1
-    cells-forth = (
-      (range-end p p-in .1, range-end q q-in .1),
-      (λ i h. omega (arith, digits-lt (range-target p i p-in h) some-state), λ i j h k. omega (arith, digits-lt (range-target p i p-in h) (range-target q j q-in k))),
-    )
-
-    pub cells-back : Cells 1 n
-    cells-back = (
-      (range-end p p-in .1, range-end q q-in .1),
-      (λ i h. omega (arith, digits-lt p-in (range-target p i p-in h)), λ i j h k. omega (arith, digits-lt (range-target q j q-in k) (range-target p i p-in h))),
-    )
 
   module _ (p q : ℕ) (p-in : p < n) (q-in : q < n) (R : Relation) where
     abbrev Answer : Bool → Type 0
@@ -75,16 +33,16 @@ module _ (bytes : List ℕ) (at n : ℕ) (first : List ℕ) (w : Sorted bytes at
       where
         step : (i : ℕ) → i < t → Matching (stepAt bytes (at + 3 * i))
         step i h e =
-            let a = range-of p i p-in h e in
+            let a = range-of bytes at n first w p i p-in h e in
             let j = f i (a .0) (a .1) in
-            (stepAt bytes (at + 3 * j .0), member-step bytes at t (j .0) (omega (arith, range-end q q-in .0)), source-of q (j .0) q-in (j .1) (j .2), j .3, j .4)
+            (stepAt bytes (at + 3 * j .0), member-step bytes at t (j .0) (omega (arith, range-end bytes at n first w q q-in .0)), source-of bytes at n first w q (j .0) q-in (j .1) (j .2), j .3, j .4)
 
     not-matched : Answer false → So (matched (stepsAt bytes at t) R p q) → ⊥
     not-matched f h =
         let i = f .0 in
-        let u = matched-e _ R p q h (stepAt bytes (at + 3 * i)) (member-step bytes at t i (omega (arith, range-end p p-in .0))) (source-of p i p-in (f .1) (f .2)) in
+        let u = matched-e _ R p q h (stepAt bytes (at + 3 * i)) (member-step bytes at t i (omega (arith, range-end bytes at n first w p p-in .0))) (source-of bytes at n first w p i p-in (f .1) (f .2)) in
         let j = step-member bytes at t (u .1) in
-        let a = range-of q (j .0) q-in (j .1) (ap (λ (x : Step). x .source) (sym (j .2)) ∙ u .2) in
+        let a = range-of bytes at n first w q (j .0) q-in (j .1) (ap (λ (x : Step). x .source) (sym (j .2)) ∙ u .2) in
         f .3 (j .0) (a .0) (a .1) (ap (λ (x : Step). x .action) (sym (j .2)) ∙ u .3) (subst (λ (x : Step). So (R (targetAt bytes at i, x .target))) (j .2) (u .4))
 
     matched-is : (b : Bool) → Answer b → b ≡ matched (stepsAt bytes at t) R p q

@@ -7,9 +7,8 @@ use lib.ListN.{length, getD}
 use lib.Dec.{eqb}
 use Rattle.settle.specs.Test.{pick, both, either, neg}
 use Rattle.chart.specs.Chart.{Step}
-use Rattle.chart.specs.Reading.{stepsAt}
 use Rattle.nearness.specs.Relation.{Relation, bisimulationRound, simulationRound}
-use Rattle.relation.specs.Sources.{actionAt, targetAt}
+use Rattle.ranges.specs.Sources.{actionAt, targetAt}
 
 -- in a round that strikes pairs by the byte v, a cell that is 0 or v was in the relation when the round began
 unfoldable pub standing : ℕ → ℕ → Bool
@@ -58,10 +57,6 @@ pub record Struck (bothWays : Bool) (steps : List Step) (n v : ℕ) (old new : L
   pub before : (y : ℕ) → y < low → getD new y 0 ≡ getD old y 0
   pub after : (y : ℕ) → high ≤ y → getD new y 0 ≡ getD old y 0
   pub changes : SomeFalls bothWays steps n v old low high changed
-
--- the chart's steps, where `first` has their sources
-abbrev pub stepsBy : List ℕ → ℕ → ℕ → List ℕ → List Step
-stepsBy bytes at n first = stepsAt bytes at (getD first n 0)
 
 -- the first cells are 0, and all else stays
 pub record Cleared (cells : ℕ) (old new : List ℕ) : Type 0 where

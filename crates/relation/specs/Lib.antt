@@ -1,4 +1,3 @@
-pub mod Sources
 pub mod Held
 pub mod Promise
 pub mod Working

@@ -17,12 +17,12 @@ use Rattle.chart.proofs.Refused as Refusals
 use Rattle.nearness.specs.Relation.{Near}
 use Rattle.nearness.proofs.Mark.{mark-unique}
 use Rattle.nearness.proofs.Rounds.{near-rounds-le, mark-le}
+use Rattle.ranges.proofs.Ranges.{stands-chart, targets-below}
 use Rattle.relation.specs.Promise.{byteAt, Answers}
 use Rattle.relation.specs.declared.Matrix.{Matrix}
 use Rattle.relation.specs.declared.MatrixAnswer.{MatrixAnswer}
 use Rattle.relation.specs.declared.MatrixAnswer.the-variants as Answer
 use Rattle.relation.proofs.Cells.{cells-few}
-use Rattle.relation.proofs.Ranges.{stands-chart, targets-below}
 use Rattle.marks.specs.Promise.{MarksOf, MarksPromise}
 use Rattle.marks.proofs.Promise.{always-answered}
 use Rattle.text.specs.Text.{placed}

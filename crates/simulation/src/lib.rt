@@ -8,7 +8,7 @@ ghost use lib.Dec.{eqb};
 ghost use lib.ListN.{length};
 ghost use Rattle.settle.specs.Test.{pick};
 ghost use Rattle.chart.specs.Reading.{stepsAt};
-ghost use Rattle.relation.specs.Sources.{Stands};
+ghost use Rattle.ranges.specs.Sources.{Stands};
 ghost use Rattle.simulation.specs.Promise.{SimulationPromise};
 ghost use Rattle.simulation.specs.Working.{Rewritten, Worked};
 
@@ -43,7 +43,7 @@ fn work_out(chart: &[u8], at: usize, t: usize, n: usize, buffer: &mut [u8]) -> M
 {
     let cells = n * n;
     relation::rounds::clear(buffer, cells);
-    let first = relation::rounds::sources(chart, at, t, n);
+    let first = ranges::sources(chart, at, t, n);
     let mut k: usize = 0;
     while k <= 4096 {
         if !relation::rounds::round(chart, at, &first, n, false, 2, buffer) {

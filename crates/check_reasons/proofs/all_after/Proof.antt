@@ -7,7 +7,7 @@ use mathlib.Core.Bool.{So, false≢true}
 use mathlib.Core.Logic.{⊎-elim}
 use Prim.Native.Nat.{ℕ, _-_, _≤_, _<_}
 use Rattle.words.specs.Words.{member}
-use Rattle.relation.specs.Sources.{actionAt, targetAt}
+use Rattle.ranges.specs.Sources.{actionAt, targetAt}
 use Rattle.check_reasons.proofs.all_after.Statement.{statement}
 use Rattle.check_reasons.proofs.all_after.Tie as tie
 

@@ -2,7 +2,7 @@ use borrow.Author.Needs.{needs}
 use native.Mathlib.Omega.{arith}
 use mathlib.Core.Path.{sym, _∙_}
 use Rattle.chart.proofs.Accepted.{accepted}
-use Rattle.relation.proofs.Ranges.{stands-chart}
+use Rattle.ranges.proofs.Ranges.{stands-chart}
 use Rattle.check_reasons.proofs.Promise.{promise-chart, promise-judged}
 use Rattle.check_reasons.proofs.check_reasons.Statement.{statement}
 use Rattle.check_reasons.proofs.check_reasons.Tie as tie

@@ -2,7 +2,7 @@ use borrow.Author.Needs.{needs}
 use native.Mathlib.Omega.{arith}
 use Prim.Native.Nat.{_*_, _-_}
 use lib.ListN.{length}
-use Rattle.relation.specs.Held.{stepsBy}
+use Rattle.ranges.specs.Sources.{stepsBy}
 use Rattle.check_reasons.proofs.Leads.{whether-so, whether-not}
 use Rattle.check_reasons.proofs.Judged.{GoodSo, good-none, line-bad, line-incomplete, all-good, line-good}
 use Rattle.check_reasons.proofs.judge.Statement.{statement}

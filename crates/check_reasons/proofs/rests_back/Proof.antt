@@ -1,6 +1,6 @@
 use borrow.Author.Needs.{needs}
 use native.Mathlib.Omega.{arith}
-use Rattle.relation.proofs.Matching.{range-end, range-target}
+use Rattle.ranges.proofs.Ranges.{range-end, range-target}
 use Rattle.check_reasons.proofs.Leads.{whether-so, whether-not, back-steps, back-rests}
 use Rattle.check_reasons.proofs.rests_back.Statement.{statement}
 use Rattle.check_reasons.proofs.rests_back.Tie as tie

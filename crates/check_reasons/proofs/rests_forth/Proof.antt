@@ -1,6 +1,6 @@
 use borrow.Author.Needs.{needs}
 use native.Mathlib.Omega.{arith}
-use Rattle.relation.proofs.Matching.{range-end}
+use Rattle.ranges.proofs.Ranges.{range-end}
 use Rattle.check_reasons.proofs.Leads.{whether-so, whether-not, some-in, forth-steps, forth-rests}
 use Rattle.check_reasons.proofs.rests_forth.Statement.{statement}
 use Rattle.check_reasons.proofs.rests_forth.Tie as tie

@@ -5,7 +5,7 @@ use native.Mathlib.Omega.{arith}
 use mathlib.Core.Path.{_≡_}
 use mathlib.Core.Logic.{⊎-elim}
 use Prim.Native.Nat.{ℕ, _-_, _≤_, _<_}
-use Rattle.relation.specs.Sources.{actionAt, targetAt}
+use Rattle.ranges.specs.Sources.{actionAt, targetAt}
 use Rattle.check_reasons.proofs.some_leads.Statement.{statement}
 use Rattle.check_reasons.proofs.some_leads.Tie as tie
 

@@ -5,7 +5,7 @@ use mathlib.Core.Path.{subst}
 use mathlib.Core.Bool.{false}
 use Prim.Native.Nat.{ℕ, _+_, _*_, _-_, _≤_, _<_}
 use lib.ListN.{getD}
-use Rattle.relation.specs.Sources.{actionAt, targetAt}
+use Rattle.ranges.specs.Sources.{actionAt, targetAt}
 use Rattle.choice.specs.Search.{SmallerAll}
 use Rattle.choice.proofs.first_move.Statement.{statement}
 use Rattle.choice.proofs.first_move.Tie as tie

@@ -4,8 +4,8 @@ use Prim.Native.Nat.{_+_, _*_}
 use lib.Arith.{digits-lt}
 use lib.ListN.{length}
 use Rattle.chart.specs.Reading.{stepAt}
-use Rattle.relation.specs.Held.{stepsBy}
-use Rattle.relation.proofs.Matching.{range-end, cells-forth, cells-back}
+use Rattle.ranges.specs.Sources.{stepsBy}
+use Rattle.ranges.proofs.Ranges.{range-end, cells-forth, cells-back}
 use Rattle.choice.specs.Choice.{markIn}
 use Rattle.choice.proofs.Putting.{line-put}
 use Rattle.choice.proofs.Choosing.{chosen-0, other-there, chosen-1}

@@ -3,8 +3,8 @@ use borrow.Author.Tests.{not-true, not-false}
 use native.Mathlib.Omega.{arith}
 use Prim.Native.Nat.{_-_}
 use Rattle.nearness.proofs.Rounds.{near-rounds}
-use Rattle.relation.specs.Held.{stepsBy}
-use Rattle.relation.proofs.Ranges.{targets-below}
+use Rattle.ranges.specs.Sources.{stepsBy}
+use Rattle.ranges.proofs.Ranges.{targets-below}
 use Rattle.relation.proofs.Rounding.{rounding-none, rounding-few, rounding-room}
 use Rattle.marks.proofs.Marking.{Marking, marked-none, marking-more, marking-done}
 use Rattle.marks.proofs.work_out.Statement.{statement}

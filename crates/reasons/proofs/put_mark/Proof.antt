@@ -4,7 +4,7 @@ use native.Mathlib.Omega.{arith}
 use Prim.Native.Nat.{_+_, _-_, _*_, _≤_, _<_}
 use mathlib.Core.Path.{_≡_, refl, sym, _∙_}
 use lib.ListN.{length, getD}
-use Rattle.relation.specs.Held.{stepsBy}
+use Rattle.ranges.specs.Sources.{stepsBy}
 use Rattle.relation.proofs.Cells.{row-in, column-in, pair-cell, cells-few}
 use Rattle.reason.specs.Line.{linesIn}
 use Rattle.choice.specs.Choice.{markIn}

@@ -4,7 +4,7 @@ use mathlib.Core.Path.{_≡_, sym, subst, _∙_}
 use Rattle.chart.specs.Reading.{readChart}
 use Rattle.chart.specs.declared.ChartRead.the-variants as Read
 use Rattle.chart.proofs.Accepted.{accepted}
-use Rattle.relation.proofs.Ranges.{stands-chart}
+use Rattle.ranges.proofs.Ranges.{stands-chart}
 use Rattle.marks.specs.Promise.{MarksPromise}
 use Rattle.choice.proofs.Rising.{triples-rise}
 use Rattle.reasons.proofs.Owed.{chart-refused, chart-given, not-refused, marks-stand, marks-are, marks-below}

@@ -4,7 +4,7 @@ use Prim.Native.Nat.{_*_, _≤_}
 use mathlib.Core.Path.{sym}
 use lib.ListN.{length}
 use lib.Seq.{length-take-le}
-use Rattle.relation.specs.Held.{stepsBy}
+use Rattle.ranges.specs.Sources.{stepsBy}
 use Rattle.reason.specs.Line.{linesIn}
 use Rattle.reason.specs.Own.{OwnList}
 use Rattle.reason.proofs.Bytes.{lines-length}

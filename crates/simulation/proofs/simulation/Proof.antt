@@ -2,8 +2,8 @@ use borrow.Author.Needs.{needs}
 use native.Mathlib.Omega.{arith}
 use mathlib.Core.Path.{sym, _∙_}
 use Rattle.chart.proofs.Accepted.{accepted}
+use Rattle.ranges.proofs.Ranges.{stands-chart}
 use Rattle.relation.proofs.Cells.{cells-few}
-use Rattle.relation.proofs.Ranges.{stands-chart}
 use Rattle.relation.proofs.Promise.{promise-chart, promise-short, promise-worked}
 use Rattle.simulation.proofs.Promise.{simulation-of}
 use Rattle.simulation.proofs.simulation.Statement.{statement}

@@ -3,9 +3,9 @@ use borrow.Author.Tests.{not-true, not-false}
 use native.Mathlib.Omega.{arith}
 use Prim.Native.Nat.{_-_}
 use Rattle.nearness.proofs.Rounds.{simulation-rounds}
-use Rattle.relation.specs.Held.{stepsBy}
+use Rattle.ranges.specs.Sources.{stepsBy}
+use Rattle.ranges.proofs.Ranges.{targets-below}
 use Rattle.relation.proofs.Cells.{cells-few}
-use Rattle.relation.proofs.Ranges.{targets-below}
 use Rattle.relation.proofs.Rounding.{rounding-none, rounding-few, rounding-room}
 use Rattle.simulation.proofs.Simulating.{Simulated, simulated-none, simulated-more, simulated-done}
 use Rattle.simulation.proofs.work_out.Statement.{statement}

@@ -5,7 +5,7 @@ use native.Mathlib.Omega.{arith}
 use mathlib.Core.Path.{subst}
 use mathlib.Core.Bool.{true}
 use Prim.Native.Nat.{ℕ, _+_, _*_, _-_, _≤_, _<_}
-use Rattle.relation.specs.Sources.{actionAt, targetAt}
+use Rattle.ranges.specs.Sources.{actionAt, targetAt}
 use Rattle.relation.specs.Held.{readBy, Answered}
 use Rattle.relation.proofs.rounds.all_answered.Statement.{statement}
 use Rattle.relation.proofs.rounds.all_answered.Tie as tie

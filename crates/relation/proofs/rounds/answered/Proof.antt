@@ -6,7 +6,7 @@ use mathlib.Core.Bool.{So, false≢true}
 use mathlib.Core.Logic.{⊎-elim}
 use Prim.Native.Nat.{ℕ, _+_, _*_, _-_, _≤_, _<_}
 use lib.ListN.{getD}
-use Rattle.relation.specs.Sources.{actionAt, targetAt}
+use Rattle.ranges.specs.Sources.{actionAt, targetAt}
 use Rattle.relation.specs.Held.{standing}
 use Rattle.relation.proofs.rounds.answered.Statement.{statement}
 use Rattle.relation.proofs.rounds.answered.Tie as tie

@@ -5,7 +5,8 @@ use native.Mathlib.Numerals.{add-one}
 use mathlib.Core.Path.{_≡_, ap}
 use mathlib.Core.Logic.{⊎-elim}
 use Prim.Native.Nat.{ℕ, _+_, _*_, _-_, _≤_}
-use Rattle.relation.specs.Held.{Struck, stepsBy}
+use Rattle.ranges.specs.Sources.{stepsBy}
+use Rattle.relation.specs.Held.{Struck}
 use Rattle.relation.proofs.Striking.{struck-none, struck-changed, struck-unchanged}
 use Rattle.relation.proofs.rounds.round.Statement.{statement}
 use Rattle.relation.proofs.rounds.round.Tie as tie

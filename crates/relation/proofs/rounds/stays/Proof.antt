@@ -1,6 +1,7 @@
 use borrow.Author.Needs.{needs}
 use borrow.Author.Tests.{not-true, not-false}
-use Rattle.relation.proofs.Matching.{cells-forth, cells-back, falls-forth, stays-both, stays-forth}
+use Rattle.ranges.proofs.Ranges.{cells-forth, cells-back}
+use Rattle.relation.proofs.Matching.{falls-forth, stays-both, stays-forth}
 use Rattle.relation.proofs.rounds.stays.Statement.{statement}
 use Rattle.relation.proofs.rounds.stays.Tie as tie
 

@@ -3,7 +3,8 @@ use native.Mathlib.Omega.{arith}
 use mathlib.Core.Path.{_≡_}
 use mathlib.Core.Logic.{⊎-elim}
 use Prim.Native.Nat.{_+_, _*_, _-_, _≤_}
-use Rattle.relation.specs.Held.{Struck, stepsBy}
+use Rattle.ranges.specs.Sources.{stepsBy}
+use Rattle.relation.specs.Held.{Struck}
 use Rattle.relation.proofs.Striking.{struck-none, struck-changed, struck-unchanged}
 use Rattle.relation.proofs.rounds.strike_row.Statement.{statement}
 use Rattle.relation.proofs.rounds.strike_row.Tie as tie

@@ -3,10 +3,10 @@ use native.Mathlib.Omega.{arith}
 use mathlib.Core.Path.{_≡_, refl}
 use Prim.Native.Nat.{_-_, _≤_}
 use lib.ListN.{length, length-set}
-use Rattle.relation.specs.Sources.{Sources, Stands}
-use Rattle.relation.proofs.Ranges.{sources-none, sources-more, sources-all, sorted-by}
-use Rattle.relation.proofs.rounds.sources.Statement.{statement}
-use Rattle.relation.proofs.rounds.sources.Tie as tie
+use Rattle.ranges.specs.Sources.{Sources, Stands}
+use Rattle.ranges.proofs.Counting.{sources-none, sources-more, sources-all, sorted-by}
+use Rattle.ranges.proofs.sources.Statement.{statement}
+use Rattle.ranges.proofs.sources.Tie as tie
 
 abbrev Inv-loop : tie.InvT-loop
 Inv-loop chart at t n first₀ s₀ first s = (s ≤ n) × (length first ≡ 65) × Sources chart at t s first

@@ -2,9 +2,9 @@ use borrow.Author.Needs.{needs}
 use borrow.Author.Count.{below-more}
 use native.Mathlib.Omega.{arith}
 use Prim.Native.Nat.{ℕ, _+_, _*_, _-_, _≤_, _<_}
-use Rattle.relation.specs.Sources.{sourceAt}
-use Rattle.relation.proofs.rounds.past.Statement.{statement}
-use Rattle.relation.proofs.rounds.past.Tie as tie
+use Rattle.ranges.specs.Sources.{sourceAt}
+use Rattle.ranges.proofs.past.Statement.{statement}
+use Rattle.ranges.proofs.past.Tie as tie
 
 abbrev Inv-loop : tie.InvT-loop
 Inv-loop chart at t from s i₀ i = (from ≤ i) × (i ≤ t) × ((k : ℕ) → k < i → from ≤ k → sourceAt chart at k < s)

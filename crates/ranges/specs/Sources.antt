@@ -3,6 +3,8 @@ use Prim.Native.Nat.{ℕ, _+_, _*_, _≤_, _<_}
 use mathlib.Core.Path.{_≡_}
 use mathlib.Core.List.{List}
 use lib.ListN.{length, getD}
+use Rattle.chart.specs.Chart.{Step}
+use Rattle.chart.specs.Reading.{stepsAt}
 
 abbrev pub sourceAt : List ℕ → ℕ → ℕ → ℕ
 sourceAt bytes at i = getD bytes (at + 3 * i) 0
@@ -39,3 +41,7 @@ pub record Sources (bytes : List ℕ) (at t n : ℕ) (first : List ℕ) : Type 0
 pub record Sorted (bytes : List ℕ) (at n : ℕ) (first : List ℕ) : Type 0 where
   pub triples : Stands bytes at (getD first n 0) n
   pub sources : Sources bytes at (getD first n 0) n first
+
+-- the chart's steps, where `first` has their sources
+abbrev pub stepsBy : List ℕ → ℕ → ℕ → List ℕ → List Step
+stepsBy bytes at n first = stepsAt bytes at (getD first n 0)

@@ -1,18 +1,12 @@
 -- The sources of sorted triples, counted one state further at a time.
 use Prim.Native.Nat.{ℕ, zero, suc, _+_, _≤_, _<_}
-use mathlib.Core.Path.{_≡_, refl, ap, _∙_}
+use mathlib.Core.Path.{_≡_, refl, _∙_}
 use mathlib.Core.List.{List}
 use native.Mathlib.Omega.{arith}
 use native.Mathlib.Decide.{decLe, ℕ-discrete}
 use lib.ListN.{length, getD, set, replicate}
 use lib.Seq.{getD-set-same, getD-set-other}
-use Rattle.chart.specs.Chart.{Step}
-use Rattle.chart.specs.Reading.{stepsAt}
-use Rattle.chart.specs.declared.Shape.{Shape}
-use Rattle.chart.proofs.Steps.{step-member}
-use Rattle.chart.proofs.Accepted.{Accepted, sources-rise}
-use Rattle.sheet.proofs.Meaning.{TargetsBelow}
-use Rattle.relation.specs.Sources.{sourceAt, Stands, Past, Sources, Sorted}
+use Rattle.ranges.specs.Sources.{sourceAt, Stands, Past, Sources, Sorted}
 
 module _ (bytes : List ℕ) (at t : ℕ) where
   pub sources-none : (entries : ℕ) → Sources bytes at t 0 (replicate entries 0)
@@ -55,18 +49,3 @@ sources-all bytes at t n first st w =
 
 pub sorted-by : (bytes : List ℕ) (at t n : ℕ) (first : List ℕ) → Stands bytes at t n → Sources bytes at t n first → Sorted bytes at n first
 sorted-by bytes at t n first st w = let e = sources-all bytes at t n first st w in record { triples = rw e st; sources = rw e w }
-
--- ---- the triples of an accepted chart
-
-pub stands-chart : (s : List ℕ) (sh : Shape) → Accepted s sh → Stands s (4 + sh .n + sh .m) (sh .t) (sh .n)
-stands-chart s sh a =
-    record {
-      there = omega (arith, a .whole);
-      few = a .states-few;
-      sources-in = λ i h. a .steps-in i h .source-in;
-      targets-in = λ i h. a .steps-in i h .target-in;
-      sources-rise = sources-rise s sh a;
-    }
-
-pub targets-below : (bytes : List ℕ) (at t n : ℕ) → Stands bytes at t n → TargetsBelow n (stepsAt bytes at t)
-targets-below bytes at t n st u m = let i = step-member bytes at t m in omega (arith, st .targets-in (i .0) (i .1), ap (λ (x : Step). x .target) (i .2))

@@ -1,0 +1,3 @@
+pub mod Counting
+pub mod Ranges
+pub mod Determined
