@@ -5,6 +5,7 @@ use mathlib.Core.List.{List}
 use Rattle.relation.specs.declared.MatrixAnswer.{MatrixAnswer}
 use Rattle.marks.proofs.Promise.{marks-determined}
 use Rattle.simulation.proofs.Promise.{simulation-determined}
+use Rattle.equal.proofs.Promise.{rows-determined, pairs-determined}
 use Rattle.property.proofs.Promise.{property-determined}
 use Rattle.both_solutions.proofs.Promise.{both-determined}
 use Rattle.short_form.proofs.Promise.{short-form-determined}
@@ -12,7 +13,7 @@ use Rattle.lent.specs.declared.LentAnswer.{LentAnswer}
 use Rattle.reasons.proofs.Promise.{reasons-determined}
 use Rattle.check_reasons.proofs.Promise.{check-determined}
 use Rattle.compare.proofs.Determined.{compare-determined}
-use Rattle.calls.specs.Shown.{lent, matrixCode, matrixStates, matrixRounds, MatrixShown, MarksShown, SimulationShown, propertyCode, wordLeft, countLeft, roundsLeft, PropertyShown, bothCode, leastLeft, greatestLeft, BothShown, writtenCode, writtenLeft, WrittenShown, ShortFormShown, ReasonsShown, checkCode, linesLeft, CheckShown, compareCode, compareWritten, compareRounds, CompareShown}
+use Rattle.calls.specs.Shown.{lent, matrixCode, matrixStates, matrixRounds, MatrixShown, MarksShown, SimulationShown, equalCode, countedLeft, EqualRowsShown, EqualPairsShown, propertyCode, wordLeft, countLeft, roundsLeft, PropertyShown, bothCode, leastLeft, greatestLeft, BothShown, writtenCode, writtenLeft, WrittenShown, ShortFormShown, ReasonsShown, checkCode, linesLeft, CheckShown, compareCode, compareWritten, compareRounds, CompareShown}
 
 -- what follows from equal answers
 along : {A B : Type 0} (f : A → B) {x y : A} {m n : B} → x ≡ y → m ≡ f x → n ≡ f y → m ≡ n
@@ -37,6 +38,20 @@ pub simulation-shown-determined : (chart old a b : List ℕ) (s s₁ s₂ r r₁
     → SimulationShown chart old a (lent s s₁) (lent r r₁) c₁ → SimulationShown chart old b (lent s s₂) (lent r r₂) c₂
     → (a ≡ b) × (c₁ ≡ c₂) × (s₁ ≡ s₂) × (r₁ ≡ r₂)
 simulation-shown-determined = matrix-shown-determined simulation-determined
+
+pub equal-rows-shown-determined : (chart old a b : List ℕ) (s s₁ s₂ c₁ c₂ : ℕ)
+    → EqualRowsShown chart old a (lent s s₁) c₁ → EqualRowsShown chart old b (lent s s₂) c₂
+    → (a ≡ b) × (c₁ ≡ c₂) × (s₁ ≡ s₂)
+equal-rows-shown-determined chart old a b s s₁ s₂ c₁ c₂ x y =
+    let e = rows-determined chart old a b _ _ (x .promised) (y .promised) in
+    (e .1, along equalCode (e .0) (x .code-is) (y .code-is), along (countedLeft s) (e .0) (x .counted-is) (y .counted-is))
+
+pub equal-pairs-shown-determined : (chart : List ℕ) (n n₁ n₂ c₁ c₂ : ℕ)
+    → EqualPairsShown chart (lent n n₁) c₁ → EqualPairsShown chart (lent n n₂) c₂
+    → (c₁ ≡ c₂) × (n₁ ≡ n₂)
+equal-pairs-shown-determined chart n n₁ n₂ c₁ c₂ x y =
+    let e = pairs-determined chart _ _ (x .promised) (y .promised) in
+    (along equalCode e (x .code-is) (y .code-is), along (countedLeft n) e (x .counted-is) (y .counted-is))
 
 pub property-shown-determined : (chart sheet : List ℕ) (w w₁ w₂ n n₁ n₂ r r₁ r₂ c₁ c₂ : ℕ)
     → PropertyShown chart sheet (lent w w₁) (lent n n₁) (lent r r₁) c₁ → PropertyShown chart sheet (lent w w₂) (lent n n₂) (lent r r₂) c₂

@@ -21,6 +21,9 @@ use Rattle.sheet.proofs.Found.{number-some, number-few, bytes-few}
 use Rattle.sheet.proofs.Accepted.{layout-read, refusal-small}
 use Rattle.relation.specs.Promise.{Saying, Relations, MatrixPromise}
 use Rattle.relation.specs.declared.MatrixAnswer.the-variants as Matrices
+use Rattle.equal.specs.Promise.{RowsPromise, PairsPromise}
+use Rattle.equal.specs.declared.EqualAnswer.the-variants as Equal
+use Rattle.equal.proofs.Promise.{rows-refused-exactly, pairs-refused-exactly}
 use Rattle.solve.specs.declared.PropertyAnswer.the-variants as Property
 use Rattle.property.specs.Promise.{PropertyPromise}
 use Rattle.property.proofs.SheetPromise.{Unread, of-chart, of-sheet}
@@ -78,6 +81,14 @@ matrix-packable chart old new r p = by-chart (readChart chart) refl
     by-chart : (x : ChartRead) → readChart chart ≡ x → Packable r
     by-chart (Read.Refused s) e = packable-as (out s (p .chart-refused s e)) (chart-packable chart s e)
     by-chart (Read.Chart sh) e = by-room sh e (decLt (length old) (sh .n * sh .n))
+
+-- ---- equal rows and equal pairs
+
+pub rows-packable : (chart old new : List ℕ) (r : Refusal) → RowsPromise chart old new (Equal.Refused r) → Packable r
+rows-packable chart old new r p = chart-packable chart r (rows-refused-exactly chart old new _ p r .0 refl)
+
+pub pairs-packable : (chart : List ℕ) (r : Refusal) → PairsPromise chart (Equal.Refused r) → Packable r
+pairs-packable chart r p = chart-packable chart r (pairs-refused-exactly chart _ p r .0 refl)
 
 -- ---- property, and both solutions
 

@@ -12,6 +12,10 @@ use Rattle.marks.specs.Promise.{MarksPromise}
 use Rattle.marks.proofs.Promise.{marks-determined}
 use Rattle.simulation.specs.Promise.{SimulationPromise}
 use Rattle.simulation.proofs.Promise.{simulation-determined}
+use Rattle.equal.specs.Promise.{RowsPromise, PairsPromise}
+use Rattle.equal.specs.declared.EqualAnswer.{EqualAnswer}
+use Rattle.equal.specs.declared.EqualAnswer.the-variants as Equal
+use Rattle.equal.proofs.Promise.{rows-determined, pairs-determined}
 use Rattle.property.specs.Promise.{PropertyPromise}
 use Rattle.solve.specs.declared.Solved.{Solved}
 use Rattle.solve.specs.declared.PropertyAnswer.{PropertyAnswer}
@@ -38,10 +42,10 @@ use Rattle.compare.specs.declared.CompareAnswer.{CompareAnswer}
 use Rattle.compare.specs.declared.CompareAnswer.the-variants as Compare
 use Rattle.compare.proofs.Determined.{not-compared, compare-determined}
 use Rattle.calls.specs.Packing.{packed, Parts}
-use Rattle.calls.specs.Shown.{Lent, matrixCode, MarksShown, SimulationShown, propertyCode, PropertyShown, bothCode, BothShown, writtenCode, ShortFormShown, ReasonsShown, checkCode, CheckShown, compareCode, CompareShown}
+use Rattle.calls.specs.Shown.{Lent, matrixCode, MarksShown, SimulationShown, equalCode, EqualRowsShown, EqualPairsShown, propertyCode, PropertyShown, bothCode, BothShown, writtenCode, ShortFormShown, ReasonsShown, checkCode, CheckShown, compareCode, CompareShown}
 use Rattle.calls.specs.Told.{Told}
 use Rattle.calls.proofs.Packing.{Packable, packed-some, packing}
-use Rattle.calls.proofs.Packable.{matrix-packable, property-packable, both-packable, short-form-packable, reasons-packable, check-packable, compare-packable}
+use Rattle.calls.proofs.Packable.{matrix-packable, rows-packable, pairs-packable, property-packable, both-packable, short-form-packable, reasons-packable, check-packable, compare-packable}
 
 -- ---- what all share
 
@@ -80,6 +84,27 @@ pub simulation-told : (chart old new : List ℕ) (states rounds : Lent) (code : 
 simulation-told chart old new states rounds code x =
     told (λ s t p q. simulation-determined chart old new new s t p q .0) (matrix-packable chart old new) not-given
     (x .answer) (x .promised) (given-or-refused (x .answer) (x .code-is))
+
+-- ---- equal rows and equal pairs
+
+counted-or-refused : {code : ℕ} (a : EqualAnswer) → code ≡ equalCode a → Coded Equal.Counted Equal.Refused a code
+counted-or-refused (Equal.Counted count) e = inl (count, refl, e)
+counted-or-refused (Equal.Refused r) e = inr (r, refl, e)
+
+not-counted : (count : ℕ) (r : Refusal) → Equal.Counted count ≡ Equal.Refused r → ⊥
+not-counted count r e = let z : _≡_ {A = ℕ} 0 1 = cc in omega arith
+
+pub equal-rows-told : (chart old new : List ℕ) (states : Lent) (code : ℕ) → EqualRowsShown chart old new states code
+    → Told Equal.Counted Equal.Refused (RowsPromise chart old new) code
+equal-rows-told chart old new states code x =
+    told (λ s t p q. rows-determined chart old new new s t p q .0) (rows-packable chart old new) not-counted
+    (x .answer) (x .promised) (counted-or-refused (x .answer) (x .code-is))
+
+pub equal-pairs-told : (chart : List ℕ) (pairs : Lent) (code : ℕ) → EqualPairsShown chart pairs code
+    → Told Equal.Counted Equal.Refused (PairsPromise chart) code
+equal-pairs-told chart pairs code x =
+    told (pairs-determined chart) (pairs-packable chart) not-counted
+    (x .answer) (x .promised) (counted-or-refused (x .answer) (x .code-is))
 
 -- ---- property
 

@@ -8,6 +8,9 @@ use Rattle.relation.specs.declared.MatrixAnswer.{MatrixAnswer}
 use Rattle.relation.specs.declared.MatrixAnswer.the-variants as Matrices
 use Rattle.marks.specs.Promise.{MarksPromise}
 use Rattle.simulation.specs.Promise.{SimulationPromise}
+use Rattle.equal.specs.Promise.{RowsPromise, PairsPromise}
+use Rattle.equal.specs.declared.EqualAnswer.{EqualAnswer}
+use Rattle.equal.specs.declared.EqualAnswer.the-variants as Equal
 use Rattle.property.specs.Promise.{PropertyPromise}
 use Rattle.solve.specs.declared.PropertyAnswer.{PropertyAnswer}
 use Rattle.solve.specs.declared.PropertyAnswer.the-variants as Property
@@ -62,6 +65,30 @@ MarksShown = MatrixShown MarksPromise
 
 abbrev pub SimulationShown : List ℕ → List ℕ → List ℕ → Lent → Lent → ℕ → Type 0
 SimulationShown = MatrixShown SimulationPromise
+
+-- ---- equal rows and equal pairs: the number of states, or of pairs
+
+abbrev pub equalCode : EqualAnswer → ℕ
+equalCode (Equal.Counted count) = 0
+equalCode (Equal.Refused r) = packed r
+
+abbrev pub countedLeft : ℕ → EqualAnswer → ℕ
+countedLeft old (Equal.Counted count) = count
+countedLeft old (Equal.Refused r) = old
+
+-- Promise is what the question promises of the answer, and of the words that are lent for it
+pub record EqualShown (Promise : EqualAnswer → Type 0) (counted : Lent) (code : ℕ) : Type 0 where
+  pub answer : EqualAnswer
+  pub promised : Promise answer
+  pub code-is : code ≡ equalCode answer
+  pub counted-is : counted .after ≡ countedLeft (counted .before) answer
+
+-- of 64 lent words, before and after: `sixty-four-words` of equal says what they are then
+abbrev pub EqualRowsShown : List ℕ → List ℕ → List ℕ → Lent → ℕ → Type 0
+EqualRowsShown chart old new = EqualShown (RowsPromise chart old new)
+
+abbrev pub EqualPairsShown : List ℕ → Lent → ℕ → Type 0
+EqualPairsShown chart = EqualShown (PairsPromise chart)
 
 -- ---- property
 

@@ -14,7 +14,7 @@ use borrow.Author.Tests.{eq-eqb, eqb-true}
 use Rattle.settle.specs.Test.{either}
 use Rattle.settle.proofs.Test.{never, either-l, either-r, either-e}
 use Rattle.words.specs.Words.{member, wordOf, With}
-use Rattle.words.proofs.Words.{word-lt, word-ext, step-word, word-member, no-member}
+use Rattle.words.proofs.Words.{word-lt, word-ext, step-word, word-member, none-member}
 use Rattle.chart.specs.Chart.{Step}
 use Rattle.sheet.proofs.Meaning.{TargetsBelow}
 use Rattle.reason.specs.Line.{Line, pairOf, IsMove, relies}
@@ -44,7 +44,7 @@ words-none =
     record {
       sixty-four = refl;
       small = λ k. small 64 k;
-      holds = λ p q h k. (λ s. never (sym (ap (λ (v : ℕ). member v q) (getD-replicate 64 p 0 0 h) ∙ no-member 0 0 q (omega arith) (omega arith)) ∙ s), λ l. absurd (List·Memᴰ·not-nil (l .1)));
+      holds = λ p q h k. (λ s. never (sym (ap (λ (v : ℕ). member v q) (getD-replicate 64 p 0 0 h) ∙ none-member q) ∙ s), λ l. absurd (List·Memᴰ·not-nil (l .1)));
     }
   where
     small : (n k : ℕ) → getD (replicate n 0) k 0 < 2 ^ 64

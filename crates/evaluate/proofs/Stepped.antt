@@ -13,7 +13,7 @@ use lib.Seq.{getD-set-same, getD-set-other}
 use Rattle.settle.specs.Test.{either}
 use Rattle.sheet.specs.Reading.{labelOf}
 use Rattle.words.specs.Words.{member}
-use Rattle.words.proofs.Words.{word-lt, word-cong, word-none, word-member, word-of, no-member, minus-member}
+use Rattle.words.proofs.Words.{word-lt, word-cong, word-none, word-member, word-of, no-member, minus-member, none-member}
 use Rattle.steps.specs.Walk.{leads}
 use Rattle.steps.proofs.Leads.{leads-none, leads-either, leads-small}
 use Rattle.evaluate.specs.Evaluating.{rowOf, stepWord, Serves, memoAt, Remembers, SameRows, Kept}
@@ -40,7 +40,7 @@ module _ (n row : ℕ) (into : List ℕ) (S : Serves n row into) where
   -- from nothing
   pub stepped-all : (f r : ℕ) → r < 2 ^ 64 → ((s : ℕ) → member r s ≡ either (member 0 s) (leads into (row * n) f s)) → r ≡ stepWord into n row f
   unfolding either
-  stepped-all f r h is = word-of n r _ (S .states-few) h (λ s. rw (is s, no-member 0 0 s (omega arith) (omega arith))) (none-above f)
+  stepped-all f r h is = word-of n r _ (S .states-few) h (λ s. rw (is s, none-member s)) (none-above f)
 
   -- from what the row gave for a set that lies in f
   pub stepped-more : (was known f r : ℕ) → was < 2 ^ n → f < 2 ^ n → bitAnd was f ≡ was → known ≡ stepWord into n row was → r < 2 ^ 64

@@ -14,6 +14,9 @@ use Rattle.nearness.specs.Relation.{Near, Simulating}
 use Rattle.relation.specs.Promise.{Saying, Relations, MatrixPromise}
 use Rattle.relation.specs.declared.MatrixAnswer.{MatrixAnswer}
 use Rattle.relation.specs.declared.MatrixAnswer.the-variants as Matrices
+use Rattle.equal.specs.Promise.{RowsPromise, PairsPromise}
+use Rattle.equal.specs.declared.EqualAnswer.{EqualAnswer}
+use Rattle.equal.specs.declared.EqualAnswer.the-variants as Equal
 use Rattle.property.specs.Promise.{PropertyPromise}
 use Rattle.solve.specs.declared.PropertyAnswer.{PropertyAnswer}
 use Rattle.solve.specs.declared.PropertyAnswer.the-variants as Property
@@ -29,12 +32,14 @@ use Rattle.compare.specs.Promise.{ComparePromise}
 use Rattle.compare.specs.declared.CompareAnswer.{CompareAnswer}
 use Rattle.compare.specs.declared.CompareAnswer.the-variants as Comparing
 use Rattle.calls.specs.Packing.{packed}
-use Rattle.calls.specs.Shown.{lent, matrixCode, matrixStates, matrixRounds, propertyCode, wordLeft, countLeft, roundsLeft, bothCode, leastLeft, greatestLeft, writtenCode, writtenLeft, checkCode, linesLeft, compareCode, compareWritten, compareRounds, MatrixShown, MarksShown, SimulationShown, PropertyShown, BothShown, WrittenShown, CheckShown, CompareShown}
+use Rattle.calls.specs.Shown.{lent, matrixCode, matrixStates, matrixRounds, equalCode, countedLeft, EqualShown, propertyCode, wordLeft, countLeft, roundsLeft, bothCode, leastLeft, greatestLeft, writtenCode, writtenLeft, checkCode, linesLeft, compareCode, compareWritten, compareRounds, MatrixShown, MarksShown, SimulationShown, PropertyShown, BothShown, WrittenShown, CheckShown, CompareShown}
 use Rattle.calls.proofs.Three.{three-numbers}
 use Rattle.calls.proofs.Packing.{Packable, packed-some, packing}
-use Rattle.calls.proofs.Packable.{matrix-packable, property-packable, both-packable, short-form-packable, reasons-packable, check-packable, compare-packable}
+use Rattle.calls.proofs.Packable.{matrix-packable, rows-packable, pairs-packable, property-packable, both-packable, short-form-packable, reasons-packable, check-packable, compare-packable}
 use Rattle.idle.specs.Slice.{Slice}
 use Rattle.idle.specs.Matrix as Matrix
+use Rattle.idle.specs.EqualRows as Rows
+use Rattle.idle.specs.EqualPairs as Pairs
 use Rattle.idle.specs.Property as Properties
 use Rattle.idle.specs.BothSolutions as Boths
 use Rattle.idle.specs.Written as Written
@@ -43,9 +48,11 @@ use Rattle.idle.specs.ShortForm as ShortForms
 use Rattle.idle.specs.Reasons as Reasoning
 use Rattle.idle.specs.CheckReasons as Checks
 use Rattle.idle.specs.Compare as Compare
-use Rattle.idle.specs.Call.{inputOf, refusalOf, MatrixLeft, matrixRead, matrixBuild, MeetsMatrix, PropertyLeft, propertyRead, propertyBuild, MeetsProperty, BothLeft, bothRead, bothBuild, MeetsBoth, WrittenLeft, writtenRead, writtenBuild, MeetsWritten, CheckLeft, checkRead, checkBuild, MeetsCheck, CompareLeft, compareRead, compareBuild, MeetsCompare}
+use Rattle.idle.specs.Call.{inputOf, refusalOf, MatrixLeft, matrixRead, matrixBuild, MeetsMatrix, EqualLeft, equalRead, rowsBuild, MeetsRows, pairsBuild, MeetsPairs, PropertyLeft, propertyRead, propertyBuild, MeetsProperty, BothLeft, bothRead, bothBuild, MeetsBoth, WrittenLeft, writtenRead, writtenBuild, MeetsWritten, CheckLeft, checkRead, checkBuild, MeetsCheck, CompareLeft, compareRead, compareBuild, MeetsCompare}
 use Rattle.idle.proofs.Marks.{marks-not-idle}
 use Rattle.idle.proofs.Simulation.{simulation-not-idle}
+use Rattle.idle.proofs.EqualRows.{equal-rows-not-idle}
+use Rattle.idle.proofs.EqualPairs.{equal-pairs-not-idle}
 use Rattle.idle.proofs.Property.{property-not-idle}
 use Rattle.idle.proofs.BothSolutions.{both-not-idle}
 use Rattle.idle.proofs.ShortForm.{short-form-not-idle}
@@ -95,6 +102,24 @@ module _ (states rounds : ℕ) (call : Slice → Slice → MatrixLeft) where
 
   pub simulation-call-not-idle : MeetsMatrix SimulationShown states rounds call → Matrix.NotIdle Simulating 1 0 (matrixBuild call)
   simulation-call-not-idle s = simulation-not-idle (matrixBuild call) (λ chart old. matrix-promised (chart .0) (old .0) states rounds (call chart old) (s chart old))
+
+-- ---- equal rows and equal pairs
+
+-- where every refusal that the question promises can be packed
+equal-promised : (Promise : EqualAnswer → Type 0) → ((r : Refusal) → Promise (Equal.Refused r) → Packable r) → (counted : ℕ) (x : EqualLeft) → EqualShown Promise (lent counted (x .counted)) (x .code) → Promise (equalRead x)
+equal-promised Promise packable counted x s = go (s .answer) (s .promised) (s .code-is) (s .counted-is)
+  where
+    go : (a : EqualAnswer) → Promise a → x .code ≡ equalCode a → x .counted ≡ countedLeft counted a → Promise (equalRead x)
+    go (Equal.Counted count) p c e = read-given Promise Equal.Refused _ (x .code) c (rw e p)
+    go (Equal.Refused r) p c e = read-refused Promise Equal.Refused _ (x .code) r (packable r p) c p
+
+pub equal-rows-call-not-idle : (states : ℕ) (call : Slice → Rows.Words → EqualLeft) → MeetsRows states call → Rows.NotIdle (rowsBuild call)
+equal-rows-call-not-idle states call s =
+    equal-rows-not-idle (rowsBuild call) (λ chart old. equal-promised (RowsPromise (chart .0) (old .0) (call chart old .words)) (rows-packable (chart .0) (old .0) (call chart old .words)) states (call chart old) (s chart old))
+
+pub equal-pairs-call-not-idle : (pairs : ℕ) (call : Slice → EqualLeft) → MeetsPairs pairs call → Pairs.NotIdle (pairsBuild call)
+equal-pairs-call-not-idle pairs call s =
+    equal-pairs-not-idle (pairsBuild call) (λ chart. equal-promised (PairsPromise (chart .0)) (pairs-packable (chart .0)) pairs (call chart) (s chart))
 
 -- ---- property
 

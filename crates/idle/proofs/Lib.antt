@@ -3,6 +3,8 @@ pub mod AtRest
 pub mod Matrix
 pub mod Marks
 pub mod Simulation
+pub mod EqualRows
+pub mod EqualPairs
 pub mod Property
 pub mod BothSolutions
 pub mod Written

@@ -23,7 +23,7 @@ use Rattle.idle.specs.Matrix.{Build, Meets, NotIdle}
 use Rattle.idle.proofs.AtRest.{any-simulation, no-rounds}
 use Rattle.idle.proofs.Matrix.{Shows, stepsE, not-idle}
 
-board : Mark stepsE 0 1 2 × Rounds (pairs 6) (Near stepsE) 2
+pub board : Mark stepsE 0 1 2 × Rounds (pairs 6) (Near stepsE) 2
 unfolding starred Holds chartE bytesAt
 board = let m = of-chart (MarksAre _ 2) chartE shapeE read-E (starred-boards-hold _ (here refl)) in (m .each-mark 0 1 (omega arith) (omega arith), m .rounds-are)
 
@@ -40,18 +40,18 @@ settled-at-rest : Settled (pairs 6) (Near []) 0
 unfolding chain full bisimulationRound matched each allOf both
 settled-at-rest x m = refl
 
-at-rest : Bisimilar [] 0 1
-at-rest = ((λ p q. true), (any-simulation _, any-simulation _), refl)
+pub at-rest : (p q : ℕ) → Bisimilar [] p q
+at-rest p q = ((λ x y. true), (any-simulation _, any-simulation _), refl)
 
 kept : (m : ℕ) (bytes : List ℕ) (given : Matrix) → MarksOf 6 m [] bytes given → Shows given bytes 0 0
 kept m bytes given s =
     record {
       six = s .states-said;
-      byte-is = s .zero-exactly-if-equal 0 1 (omega arith) (omega arith) .1 at-rest;
+      byte-is = s .zero-exactly-if-equal 0 1 (omega arith) (omega arith) .1 (at-rest 0 1);
       rounds-are = no-rounds _ _ _ settled-at-rest (s .rounds-are);
     }
 
-first : Near stepsE 1 (0, 1) ≡ true
+pub first : Near stepsE 1 (0, 1) ≡ true
 unfolding chartE stepsAt chain full bisimulationRound matched each some allOf anyOf implies both either leaves
 first = refl
 

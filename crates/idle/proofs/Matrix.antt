@@ -24,20 +24,20 @@ use Rattle.idle.proofs.Slice.{are-bytes, e, lent}
 
 -- ---- the charts
 
-chartAtRest : List ℕ
+pub chartAtRest : List ℕ
 chartAtRest = 6 ∷ 1 ∷ 2 ∷ 3 ∷ 4 ∷ 5 ∷ 6 ∷ 3 ∷ 10 ∷ 20 ∷ 30 ∷ 0 ∷ 0 ∷ []
 
-bytes-at-rest : Bytes chartAtRest
+pub bytes-at-rest : Bytes chartAtRest
 unfolding chartAtRest allOf both
 bytes-at-rest = are-bytes chartAtRest refl
 
-abbrev atRest : Slice
+abbrev pub atRest : Slice
 atRest = (chartAtRest, bytes-at-rest)
 
-abbrev shapeAtRest : Shape
+abbrev pub shapeAtRest : Shape
 shapeAtRest = record { n = 6; m = 3; t = 0 }
 
-read-at-rest : readChart chartAtRest ≡ Read.Chart shapeAtRest
+pub read-at-rest : readChart chartAtRest ≡ Read.Chart shapeAtRest
 unfolding chartAtRest readChart readActions readTransitions judgeCodes judgeTriples
 read-at-rest = refl
 

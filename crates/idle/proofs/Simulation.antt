@@ -27,7 +27,7 @@ unfolding SimulationsAre
 second x y rest c h = h .1 .0
 
 -- 1 does not simulate 0
-board : Simulates stepsE 0 1 → ⊥
+pub board : Simulates stepsE 0 1 → ⊥
 unfolding starred Holds
 board = second ((1, 0), true) ((0, 1), false) _ (chartIn chartE shapeE) (of-chart (SimulationsAre _) chartE shapeE read-E (starred-boards-hold _ (there (here refl))))
 

@@ -10,6 +10,8 @@ use Rattle.refusal.specs.declared.Input.the-variants as Input
 use Rattle.refusal.specs.declared.Refusal.{Refusal}
 use Rattle.relation.specs.declared.MatrixAnswer.{MatrixAnswer}
 use Rattle.relation.specs.declared.MatrixAnswer.the-variants as Matrices
+use Rattle.equal.specs.declared.EqualAnswer.{EqualAnswer}
+use Rattle.equal.specs.declared.EqualAnswer.the-variants as Equal
 use Rattle.solve.specs.declared.PropertyAnswer.{PropertyAnswer}
 use Rattle.solve.specs.declared.PropertyAnswer.the-variants as Property
 use Rattle.solve.specs.declared.Solved.{Solved}
@@ -21,9 +23,11 @@ use Rattle.check_reasons.specs.declared.CheckAnswer.{CheckAnswer}
 use Rattle.check_reasons.specs.declared.CheckAnswer.the-variants as Checking
 use Rattle.compare.specs.declared.CompareAnswer.{CompareAnswer}
 use Rattle.compare.specs.declared.CompareAnswer.the-variants as Comparing
-use Rattle.calls.specs.Shown.{Lent, lent, PropertyShown, BothShown, WrittenShown, CheckShown, CompareShown}
+use Rattle.calls.specs.Shown.{Lent, lent, EqualRowsShown, EqualPairsShown, PropertyShown, BothShown, WrittenShown, CheckShown, CompareShown}
 use Rattle.idle.specs.Slice.{Slice}
 use Rattle.idle.specs.Matrix as Matrix
+use Rattle.idle.specs.EqualRows as Rows
+use Rattle.idle.specs.EqualPairs as Pairs
 use Rattle.idle.specs.Property as Properties
 use Rattle.idle.specs.BothSolutions as Boths
 use Rattle.idle.specs.Written as Written
@@ -55,6 +59,29 @@ matrixBuild call chart old = (matrixRead (call chart old), call chart old .bytes
 abbrev pub MeetsMatrix : (List ℕ → List ℕ → List ℕ → Lent → Lent → ℕ → Type 0) → ℕ → ℕ → (Slice → Slice → MatrixLeft) → Type 0
 MeetsMatrix Shown states rounds call = (chart old : Slice) → let x = call chart old in
     Shown (chart .0) (old .0) (x .bytes) (lent states (x .states)) (lent rounds (x .rounds)) (x .code)
+
+-- ---- equal rows and equal pairs
+
+pub record EqualLeft : Type 0 where
+  pub code : ℕ
+  pub words : List ℕ
+  pub counted : ℕ
+
+abbrev pub equalRead : EqualLeft → EqualAnswer
+equalRead x = pick (eqb (x .code) 0) (Equal.Counted (x .counted)) (Equal.Refused (refusalOf (x .code)))
+
+abbrev pub rowsBuild : (Slice → Rows.Words → EqualLeft) → Rows.Build
+rowsBuild call chart old = (equalRead (call chart old), call chart old .words)
+
+abbrev pub MeetsRows : ℕ → (Slice → Rows.Words → EqualLeft) → Type 0
+MeetsRows states call = (chart : Slice) (old : Rows.Words) → let x = call chart old in EqualRowsShown (chart .0) (old .0) (x .words) (lent states (x .counted)) (x .code)
+
+-- no words are lent for the pairs
+abbrev pub pairsBuild : (Slice → EqualLeft) → Pairs.Build
+pairsBuild call chart = equalRead (call chart)
+
+abbrev pub MeetsPairs : ℕ → (Slice → EqualLeft) → Type 0
+MeetsPairs pairs call = (chart : Slice) → let x = call chart in EqualPairsShown (chart .0) (lent pairs (x .counted)) (x .code)
 
 -- ---- property
 

@@ -1,5 +1,7 @@
 pub mod Slice
 pub mod Matrix
+pub mod EqualRows
+pub mod EqualPairs
 pub mod Property
 pub mod BothSolutions
 pub mod Written

@@ -20,7 +20,7 @@ use Rattle.nearness.specs.Mark.{Mark}
 use Rattle.nearness.proofs.Matched.{matched-i, matched-e}
 use Rattle.nearness.proofs.Formulas.{near-refl, near-sym}
 use Rattle.nearness.proofs.Mark.{mark-drop}
-use Rattle.relation.specs.Held.{pairAt}
+use Rattle.relation.specs.Cells.{pairAt}
 use Rattle.relation.proofs.Cells.{row-in, column-in, pair-cell, cell-pair}
 use Rattle.reason.specs.Line.{Line, pairOf}
 use Rattle.reason.specs.Own.{MarksAre, Chosen, OwnList}

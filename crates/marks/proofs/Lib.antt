@@ -1,2 +1,2 @@
-pub mod Marking
 pub mod Promise
+pub mod Before

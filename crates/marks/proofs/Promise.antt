@@ -11,13 +11,22 @@ use Rattle.nearness.specs.Mark.{Mark, SmallestDepth}
 use Rattle.nearness.proofs.Mark.{mark-unique, mark-zero, mark-depth}
 use Rattle.nearness.proofs.Rounds.{near-rounds, near-rounds-le, mark-le, mark-max, equal-iff}
 use Rattle.relation.specs.Promise.{byteAt, AlwaysAnswered, Never15, Determined}
+use Rattle.relation.specs.Settles.{Settles}
+use Rattle.relation.specs.Working as Relation
 use Rattle.relation.specs.declared.Matrix.{Matrix}
+use Rattle.relation.specs.declared.Settled.{Settled}
 use Rattle.relation.proofs.Rounding.{working-rounds, working-cell}
 use Rattle.relation.proofs.Promise as Matrices
+use Rattle.classes.specs.Marking.{Cell, Worked}
 use Rattle.marks.specs.Promise.{MarksOf}
-use Rattle.marks.specs.Working.{Working}
 
 -- ---- what the worked out marks mean
+
+abbrev Working : List Step → ℕ → List ℕ → List ℕ → Matrix → Type 0
+Working steps = Relation.Working (Cell steps) (Near steps)
+
+pub worked : (steps : List Step) (n : ℕ) {old new : List ℕ} (s : Settled) → Settles n (Near steps) s → Worked steps n old new (s .rounds) → Working steps n old new (record { states = n; rounds = s .rounds })
+worked steps n s r w = record { states-said = refl; done = w; settled = r .rounds-are .0 }
 
 module _ (n m : ℕ) (steps : List Step) (some-state : 0 < n) (targets : TargetsBelow n steps) {old new : List ℕ} {given : Matrix} (w : Working steps n old new given) where
   mark-of : (p q : ℕ) → p < n → q < n → Mark steps p q (byteAt n new p q)

@@ -1,5 +1,6 @@
 // Document 01's boards and edges on the questions, and worked examples of the source documents: what is printed is held to the file stdout.
 use both_solutions::BothAnswer;
+use equal::EqualAnswer;
 use lent::LentAnswer;
 use libc::STDOUT_FILENO;
 use refusal::Refusal;
@@ -93,6 +94,37 @@ fn show_simulation(chart: &[u8], cells: &mut [u8]) {
     }
 }
 
+// Every word of the array.
+fn show_words(words: &[u64; 64]) {
+    let mut i: usize = 0;
+    while i < 64 {
+        number(words[i]);
+        i = i + 1;
+    }
+    say(b"\n");
+}
+
+fn show_counted(what: &[u8], answer: EqualAnswer) {
+    match answer {
+        EqualAnswer::Counted(counted) => {
+            say(what);
+            number(counted as u64);
+            say(b"\n");
+        }
+        EqualAnswer::Refused(r) => refused(r),
+    }
+}
+
+// The states and all the words, sevens before; then the pairs.
+fn show_equal(chart: &[u8]) {
+    let mut words = [7u64; 64];
+    let rows = equal::equal_rows(chart, &mut words);
+    show_counted(b"states:", rows);
+    show_words(&words);
+    let pairs = equal::equal_pairs(chart);
+    show_counted(b"pairs:", pairs);
+}
+
 fn properties(e: &[u8], l: &[u8]) {
     say(
         b"E, its sheet; L, or (box 0 false) (diamond 0 X), least, greatest; L, and (diamond 0 true) (box 0 X), greatest, least, unsaid\n",
@@ -118,7 +150,7 @@ fn properties(e: &[u8], l: &[u8]) {
     show_both(l, b"\x00");
 }
 
-fn all_marks(e: &[u8], l: &[u8]) {
+fn all_marks(e: &[u8], l: &[u8], q: &[u8], p: &[u8]) {
     let mut six = [7u8; 36];
     let mut three = [7u8; 9];
     let mut four = [7u8; 16];
@@ -129,14 +161,8 @@ fn all_marks(e: &[u8], l: &[u8]) {
     say(b"marks: E, L, 004's Q, 004's P, one state\n");
     show_marks(e, &mut six);
     show_marks(l, &mut three);
-    show_marks(
-        b"\x04\x01\x02\x03\x04\x03\x61\x62\x63\x07\x00\x00\x00\x02\x00\x01\x01\x01\x02\x03\x02\x02\x03\x03\x00\x00\x03\x00\x02\x03\x01\x01",
-        &mut four,
-    );
-    show_marks(
-        b"\x05\x01\x02\x03\x04\x05\x01\x61\x06\x00\x00\x00\x01\x01\x00\x00\x02\x00\x01\x02\x00\x03\x03\x00\x02\x03\x00\x04",
-        &mut five,
-    );
+    show_marks(q, &mut four);
+    show_marks(p, &mut five);
     show_marks(b"\x01\x00\x00\x00\x00", &mut one);
     say(b"a buffer of one byte less, which stays, and of three bytes more\n");
     show_marks(l, &mut short);
@@ -158,6 +184,22 @@ fn all_simulations(e: &[u8], l: &[u8]) {
     show_simulation(l, &mut short);
     show_cells(&short, 8);
     show_simulation(l, &mut long);
+}
+
+fn all_equal(e: &[u8], l: &[u8], q: &[u8], p: &[u8]) {
+    say(b"equal states: E, L, 004's Q, 004's P, one state\n");
+    show_equal(e);
+    show_equal(l);
+    show_equal(q);
+    show_equal(p);
+    show_equal(b"\x01\x00\x00\x00\x00");
+    say(b"64 states at rest; the last of them steps to itself\n");
+    show_equal(b"\x40................................................................\x00\x00\x00");
+    show_equal(
+        b"\x40................................................................\x01\x0a\x01\x00\x3f\x00\x3f",
+    );
+    say(b"a refused chart: the words stay\n");
+    show_equal(b"\x00");
 }
 
 // A sheet of so many nodes: diamonds of every action, and at the end true.
@@ -259,9 +301,14 @@ fn main() {
     let e =
         b"\x06\x01\x02\x03\x04\x05\x06\x03\x0a\x14\x1e\x07\x00\x00\x00\x02\x01\x00\x03\x01\x00\x04\x02\x01\x05\x02\x02\x05\x03\x01\x05\x04\x02\x05";
     let l = b"\x03\x01\x02\x03\x01\x0a\x03\x00\x00\x00\x00\x01\x00\x01\x01\x00\x02";
+    let q =
+        b"\x04\x01\x02\x03\x04\x03\x61\x62\x63\x07\x00\x00\x00\x02\x00\x01\x01\x01\x02\x03\x02\x02\x03\x03\x00\x00\x03\x00\x02\x03\x01\x01";
+    let p =
+        b"\x05\x01\x02\x03\x04\x05\x01\x61\x06\x00\x00\x00\x01\x01\x00\x00\x02\x00\x01\x02\x00\x03\x03\x00\x02\x03\x00\x04";
     properties(e, l);
-    all_marks(e, l);
+    all_marks(e, l, q, p);
     all_simulations(e, l);
+    all_equal(e, l, q, p);
     deep_forms(l);
     small_forms(l);
     eventually_false(l);

@@ -10,7 +10,7 @@ use native.Mathlib.Nat.{mul-le-mul-right, suc-mul}
 use lib.ListN.{length, getD}
 use Rattle.chart.specs.Chart.{Step}
 use Rattle.chart.specs.Layout.{Rising}
-use Rattle.relation.specs.Held.{pairAt}
+use Rattle.relation.specs.Cells.{pairAt}
 use Rattle.relation.proofs.Cells.{row-in, column-in, pair-cell, cell-in, cell-pair}
 use Rattle.reason.specs.Line.{Line, pairOf, longestList, lineAt, linesIn}
 use Rattle.reason.specs.Good.{Listed}

@@ -1,13 +1,10 @@
 -- The cells of an n by n matrix and the pairs of numbers below n.
 use Prim.Native.Nat.{ℕ, zero, suc, _+_, _*_, _/_, _%_, _≤_, _<_}
 use mathlib.Core.Path.{_≡_, ap₂}
-use mathlib.Core.List.{List·Memᴰ as Mem}
 use native.Mathlib.Omega.{arith}
 use native.Mathlib.Nat.{div-lt-iff-lt-mul, mod-lt, div-add-mod', le-trans, mul-le-mul-left, mul-le-mul-right}
 use lib.Arith.{digits-lt, digits-div, digits-mod}
-use Rattle.settle.specs.Finite.{pairs}
-use Rattle.settle.proofs.Finite.{pairs-i}
-use Rattle.relation.specs.Held.{pairAt}
+use Rattle.relation.specs.Cells.{pairAt}
 
 -- the pair of a cell
 module _ (n y : ℕ) (y-in : y < n * n) where
@@ -20,9 +17,6 @@ module _ (n y : ℕ) (y-in : y < n * n) where
 
   pub column-in : y % n < n
   column-in = mod-lt y (some-state n y-in)
-
-  pub pair-in : Mem (pairAt n y) (pairs n)
-  pair-in = pairs-i n _ _ row-in column-in
 
 pub pair-cell : (n y : ℕ) → y / n * n + y % n ≡ y
 pair-cell n y = div-add-mod' y n

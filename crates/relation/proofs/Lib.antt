@@ -1,7 +1,6 @@
 pub mod Cells
-pub mod Matching
-pub mod Striking
-pub mod Chained
+pub mod Keeping
+pub mod Bytes
 pub mod Rounding
 pub mod Promise
 pub mod Determined

@@ -21,7 +21,7 @@ use Rattle.chart.proofs.Refused.{refused}
 use Rattle.sheet.proofs.Meaning.{TargetsBelow}
 use Rattle.nearness.specs.Relation.{Relation}
 use Rattle.relation.specs.Promise.{byteAt, Saying, Relations, Answers, MatrixPromise, AlwaysAnswered, Never15, Determined}
-use Rattle.relation.specs.Working.{Holding, Working, Worked}
+use Rattle.relation.specs.Working.{Holding, Working}
 use Rattle.relation.specs.declared.Matrix.{Matrix}
 use Rattle.relation.specs.declared.MatrixAnswer.{MatrixAnswer}
 use Rattle.relation.specs.declared.MatrixAnswer.the-variants as Answer
@@ -64,16 +64,15 @@ module _ {Says : Saying} {R : Relations} where
           length-stays = refl;
         }
 
-    pub promise-worked : {Cell : Holding} {C : ℕ → Relation} (old new : List ℕ) (answer : MatrixAnswer) → sh .n * sh .n ≤ length old
-        → Worked Cell C (sh .n) old new answer
-        → ((given : Matrix) → 0 < sh .n → TargetsBelow (sh .n) (chartIn chart sh .steps) → Working Cell C (sh .n) old new given → Says (sh .n) (sh .m) (chartIn chart sh .steps) new given)
-        → MatrixPromise Says R chart old new answer
-    promise-worked old new (Answer.Refused r) h w says = absurd w
-    promise-worked old new (Answer.Given given) h w says =
+    pub promise-worked : {Cell : Holding} {C : ℕ → Relation} (old new : List ℕ) (given : Matrix) → sh .n * sh .n ≤ length old
+        → Working Cell C (sh .n) old new given
+        → (0 < sh .n → TargetsBelow (sh .n) (chartIn chart sh .steps) → Working Cell C (sh .n) old new given → Says (sh .n) (sh .m) (chartIn chart sh .steps) new given)
+        → MatrixPromise Says R chart old new (Answer.Given given)
+    promise-worked old new given h w says =
         record {
           chart-refused = λ r f. never-both read f;
           then-too-short = λ u f l. (let e : sh .n * sh .n ≡ u .n * u .n = ap (λ (x : Shape). x .n * x .n) (same-shape read f) in absurd (omega arith));
-          then-answered = λ u f l. subst (λ (x : Shape). Answers Says R chart x new (Answer.Given given)) (same-shape read f) (says given (accepted chart sh read .states-some) (targets chart sh read) w);
+          then-answered = λ u f l. subst (λ (x : Shape). Answers Says R chart x new (Answer.Given given)) (same-shape read f) (says (accepted chart sh read .states-some) (targets chart sh read) w);
           refusal-leaves-all = λ r f. (let z : _≡_ {A = ℕ} 0 1 = cc in absurd (omega arith));
           later-bytes-stay = λ u f y l. w .done .after y (subst⁻¹ (λ (x : Shape). x .n * x .n ≤ y) (same-shape read f) l);
           length-stays = w .done .same-length;

@@ -1,5 +1,5 @@
--- What the rounds of a matrix leave in a buffer that has room: on the way, and at the end, which always comes, so 15 never does. Cell says what a
--- pair's cell holds, C which relations the rounds make.
+-- What the rounds of a matrix leave in a buffer that has room, at their end, which always comes, so 15 never does. Cell says what a pair's cell holds,
+-- C which relations the rounds make.
 use Prim.Native.Nat.{ℕ, _*_, _≤_, _<_}
 use mathlib.Core.Path.{_≡_}
 use mathlib.Core.List.{List}
@@ -7,10 +7,8 @@ use lib.ListN.{length, getD}
 use Rattle.settle.specs.Finite.{pairs}
 use Rattle.settle.specs.Chain.{Settled}
 use Rattle.nearness.specs.Relation.{Relation}
-use Rattle.relation.specs.Held.{pairAt}
+use Rattle.relation.specs.Cells.{pairAt}
 use Rattle.relation.specs.declared.Matrix.{Matrix}
-use Rattle.relation.specs.declared.MatrixAnswer.{MatrixAnswer}
-use Rattle.relation.specs.declared.MatrixAnswer.the-variants as Answer
 
 -- after how many rounds which pair's cell holds which byte
 abbrev pub Holding : Type 1
@@ -28,7 +26,3 @@ pub record Working (Cell : Holding) (C : ℕ → Relation) (n : ℕ) (old new : 
   pub states-said : given .states ≡ n
   pub done : Rounding Cell C n old new (given .rounds)
   pub settled : Settled (pairs n) C (given .rounds)
-
-abbrev pub Worked : Holding → (ℕ → Relation) → ℕ → List ℕ → List ℕ → MatrixAnswer → Type 0
-Worked Cell C n old new (Answer.Given given) = Working Cell C n old new given
-Worked Cell C n old new (Answer.Refused r) = ⊥

@@ -1,7 +1,14 @@
-// A relation on a chart's states, held in a lent buffer: the layer below marks and simulation, whose functions ask what an accepted chart gives.
+// A relation on a chart's states, one word a row: the layer below marks, simulation and the equal pairs, whose functions ask what an accepted chart
+// gives; and the answer that goes with a matrix.
 use refusal::Refusal;
 
-pub mod rounds;
+pub mod rows;
+
+// The rows of the relation where the rounds have settled, and the rounds.
+pub struct Settled {
+    pub rows: [u64; 64],
+    pub rounds: usize,
+}
 
 // What is said of the matrix in a lent buffer: how many states it is of, and the rounds that made it.
 pub struct Matrix {

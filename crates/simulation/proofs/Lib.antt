@@ -1,2 +1,3 @@
-pub mod Simulating
+pub mod Cells
 pub mod Promise
+pub mod Before

@@ -4,7 +4,7 @@ use mathlib.Core.Path.{_≡_, ap, sym, _∙_}
 use mathlib.Core.Bool.{Bool}
 use mathlib.Core.List.{List}
 use native.Mathlib.Omega.{arith}
-use native.Mathlib.Nat.{mul-le-mul}
+use Rattle.steps.proofs.Filling.{table-few}
 use native.Mathlib.Numerals.{add-one}
 use lib.ListN.{length}
 use borrow.Author.Count.{below-more}
@@ -40,10 +40,7 @@ full-word n = sym (all-word n)
 
 -- 33 rows of 64 words and two words for each of 402 places are enough
 pub work-few : (s : List ℕ) (sh : Shape) (b : List ℕ) → ReadAs s sh → length b ≤ 402 → memoAt (sh .n) (sh .m) (length b) ≤ 2916
-work-few s sh b e short =
-    let A = accepted s sh e in
-    let rows : sh .m + 1 ≤ 33 = omega (arith, A .actions-few) in
-    omega (arith, mul-le-mul rows (A .states-few))
+work-few s sh b e short = omega (arith, table-few s sh e)
 
 module _ (s : List ℕ) (sh : Shape) (b : List ℕ) (nodes : ℕ) (made : List ℕ) (e : ReadAs s sh) (T : Table (sh .n) (sh .m) (chartIn s sh .steps) made) where
   -- the table as it was made, with nothing remembered yet

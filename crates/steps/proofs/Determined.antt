@@ -12,18 +12,14 @@ use Rattle.settle.specs.Test.{either}
 use Rattle.settle.proofs.Test.{ext}
 use Rattle.chart.specs.Chart.{Step}
 use Rattle.words.specs.Words.{member}
-use Rattle.words.proofs.Words.{word-cong, word-ext}
+use Rattle.words.proofs.Words.{same-members}
 use Rattle.steps.specs.Table.{Table}
 use Rattle.steps.specs.Walk.{leads}
-
--- words below 2 ^ n with the same members
-same-members : (n v w : ℕ) → v < 2 ^ n → w < 2 ^ n → ((s : ℕ) → member v s ≡ member w s) → v ≡ w
-same-members n v w h k e = sym (word-ext n v h) ∙ word-cong n _ _ (λ s l. e s) ∙ word-ext n w k
 
 pub gather-determined : (into : List ℕ) (base known set a b : ℕ) → a < 2 ^ 64 → b < 2 ^ 64
     → ((s : ℕ) → member a s ≡ either (member known s) (leads into base set s))
     → ((s : ℕ) → member b s ≡ either (member known s) (leads into base set s)) → a ≡ b
-gather-determined into base known set a b h k p q = same-members 64 a b h k (λ s. p s ∙ sym (q s))
+gather-determined into base known set a b h k p q = same-members 64 a b h k (λ s l. p s ∙ sym (q s))
 
 module _ (n m : ℕ) (some : 0 < n) (steps : List Step) (into other : List ℕ) (T : Table n m steps into) (U : Table n m steps other) where
   row-word : (row u : ℕ) → row ≤ m → u < n → (s : ℕ) → member (getD into (row * n + u) 0) s ≡ member (getD other (row * n + u) 0) s
@@ -43,7 +39,7 @@ module _ (n m : ℕ) (some : 0 < n) (steps : List Step) (into other : List ℕ) 
   word : (e : ℕ) → getD into e 0 ≡ getD other e 0
   word e = elim (decLt e ((m + 1) * n)) [
     | no f ↦ T .none-after e (omega arith) ∙ sym (U .none-after e (omega arith))
-    | yes l ↦ same-members n _ _ (T .no-bit-above e) (U .no-bit-above e) (λ s. subst (λ (x : ℕ). member (getD into x 0) s ≡ member (getD other x 0) s) (div-add-mod' e n) (row-word (e / n) (e % n) (row-in l) (mod-lt e some) s))
+    | yes l ↦ same-members n _ _ (T .no-bit-above e) (U .no-bit-above e) (λ s i. subst (λ (x : ℕ). member (getD into x 0) s ≡ member (getD other x 0) s) (div-add-mod' e n) (row-word (e / n) (e % n) (row-in l) (mod-lt e some) s))
   ]
 
   pub table-determined : length into ≡ length other → into ≡ other

@@ -1,10 +1,11 @@
--- The table of no step, and the table of one step more.
+-- The table of no step, and the table of one step more, as it is or turned back.
 use Prim.Native.Nat.{ℕ, zero, suc, _+_, _*_, _/_, _%_, _^_, _≤_, _<_}
 use mathlib.Core.Path.{_≡_, refl, ap, sym, _∙_}
-use mathlib.Core.Bool.{So}
-use mathlib.Core.List.{List, [], _∷_, _++_, List·Memᴰ·head as here, List·Memᴰ·not-nil as not-nil, List·Memᴰ·eq-of-singleton as the-one, List·Memᴰ·append-cases as append-cases, Memᴰ·append-left, Memᴰ·append-right}
+use mathlib.Core.Bool.{Bool, true, false, So}
+use mathlib.Core.List.{List, [], _∷_, _++_, map-append, List·Memᴰ·head as here, List·Memᴰ·not-nil as not-nil, List·Memᴰ·eq-of-singleton as the-one, List·Memᴰ·append-cases as append-cases, Memᴰ·append-left, Memᴰ·append-right}
 use mathlib.Core.Logic.{_⊎_, inl, inr}
 use native.Mathlib.Decide.{ℕ-discrete}
+use native.Mathlib.Nat.{mul-le-mul}
 use native.Mathlib.Omega.{arith}
 use borrow.Author.Tests.{eq-eqb, ne-eqb, eqb-true}
 use lib.Arith.{digits-lt, digits-div, digits-mod}
@@ -17,9 +18,11 @@ use Rattle.settle.specs.Test.{both, either}
 use Rattle.settle.proofs.Test.{never, both-i, both-e, either-l, either-r, either-e, either-false}
 use Rattle.chart.specs.Chart.{Step}
 use Rattle.chart.specs.Layout.{StepIn}
+use Rattle.chart.specs.declared.Shape.{Shape}
+use Rattle.chart.proofs.Accepted.{accepted}
 use Rattle.words.specs.Words.{member}
 use Rattle.words.proofs.Words.{no-member}
-use Rattle.steps.specs.Table.{Table, HasStep, Blank, withBit, withStep}
+use Rattle.steps.specs.Table.{ReadAs, Table, HasStep, Blank, turn, directed, withBit, withStep, withDirected}
 use Rattle.steps.proofs.Bits.{or-member, one-member}
 
 -- ---- bit s of word e, one more
@@ -61,16 +64,26 @@ blank zero e = refl
 blank (suc size) zero = refl
 blank (suc size) (suc e) = blank size e
 
-pub table-none : (n m : ℕ) (into : List ℕ) → Blank into → (m + 1) * n ≤ length into → Table n m [] into
-table-none n m into blank h =
-    record {
-      room = h;
-      no-bit-above = λ e. rw (blank e) (pow-pos n);
-      by-action = λ a u s a-in u-in. (no-bit ((a + 1) * n + u) s, λ k. absurd (not-nil k));
-      by-any = λ u s u-in. (no-bit u s, λ k. absurd (not-nil (k .1)));
-      none-after = λ e h. blank e;
-    }
+-- the words of every table, of at most 64 states and 32 actions
+pub table-few : (chart : List ℕ) (shape : Shape) → ReadAs chart shape → (shape .m + 1) * shape .n ≤ 2112
+table-few chart shape e =
+    let a = accepted chart shape e in
+    let rows : shape .m + 1 ≤ 33 = omega (arith, a .actions-few) in
+    omega (arith, mul-le-mul rows (a .states-few))
+
+pub table-none : (back : Bool) (n m : ℕ) (into : List ℕ) → Blank into → (m + 1) * n ≤ length into → Table n m (directed back []) into
+table-none back n m into blank h = rw (none back) (record {
+  room = h;
+  no-bit-above = λ e. rw (blank e) (pow-pos n);
+  by-action = λ a u s a-in u-in. (no-bit ((a + 1) * n + u) s, λ k. absurd (not-nil k));
+  by-any = λ u s u-in. (no-bit u s, λ k. absurd (not-nil (k .1)));
+  none-after = λ e h. blank e;
+})
   where
+    none : (back : Bool) → directed back [] ≡ []
+    none true = refl
+    none false = refl
+
     no-bit : {X : Type 0} (e s : ℕ) → So (member (getD into e 0) s) → X
     no-bit e s t = never (sym (no-member 0 _ s (rw (blank e) (pow-pos 0)) (omega arith)) ∙ t)
 
@@ -158,3 +171,10 @@ module _ (n m : ℕ) (steps : List Step) (into : List ℕ) (v : Step) (v-in : St
             ∙ getD-set-other into (v .target) e _ 0 (λ q. omega (arith, q, v-in .target-in))
             ∙ T .none-after e h;
       }
+
+-- the same of the steps as they are, or of all of them turned back
+pub table-directed : (back : Bool) (n m : ℕ) (steps : List Step) (into : List ℕ) (v : Step) → StepIn n m v → Table n m (directed back steps) into
+    → Table n m (directed back (steps ++ (v ∷ []))) (withDirected back n (v .source) (v .action) (v .target) into)
+table-directed true n m steps into v v-in T =
+    rw (map-append turn steps (v ∷ [])) (table-more n m _ into (turn v) (record { source-in = v-in .target-in; action-in = v-in .action-in; target-in = v-in .source-in }) T)
+table-directed false n m steps into v v-in T = table-more n m steps into v v-in T

@@ -14,7 +14,7 @@ use Rattle.settle.specs.Finite.{below}
 use Rattle.settle.proofs.Test.{never, ext, either-l, either-r, either-e, some-i, some-e}
 use Rattle.settle.proofs.Finite.{below-i, below-e}
 use Rattle.words.specs.Words.{member}
-use Rattle.words.proofs.Words.{no-member}
+use Rattle.words.proofs.Words.{no-member, none-member}
 use Rattle.steps.specs.Walk.{leads}
 use Rattle.steps.proofs.Bits.{or-member, lowest-lt, lowest-or-rest, lowest-in, rest-in}
 
@@ -27,7 +27,7 @@ unfolding leads
 leads-e into base set s t = let r = some-e _ _ (below 64) t in (r .0, below-e 64 (r .0) (r .1), r .2, r .3)
 
 pub leads-none : (into : List ℕ) (base s : ℕ) → leads into base 0 s ≡ false
-leads-none into base s = ext (λ t. let r = leads-e into base 0 s t in sym (no-member 0 0 (r .0) (omega arith) (omega arith)) ∙ r .2) never
+leads-none into base s = ext (λ t. let r = leads-e into base 0 s t in sym (none-member (r .0)) ∙ r .2) never
 
 -- a step to a set that two make up is a step to one of them
 pub leads-either : (into : List ℕ) (base v w f s : ℕ) → ((u : ℕ) → u < 64 → member f u ≡ either (member v u) (member w u))

@@ -1,11 +1,12 @@
 -- The table of a chart's steps, as words, n words a row.
 use Prim.Native.Nat.{ℕ, _+_, _*_, _^_, _≤_, _<_}
 use mathlib.Core.Path.{_≡_}
-use mathlib.Core.Bool.{So}
+use mathlib.Core.Bool.{Bool, true, false, So}
 use mathlib.Core.Logic.{_↔_}
-use mathlib.Core.List.{List, List·Memᴰ as Mem}
+use mathlib.Core.List.{List, map, List·Memᴰ as Mem}
 use lib.Bits.{bitOr}
 use lib.ListN.{length, getD, set}
+use Rattle.settle.specs.Test.{pick}
 use Rattle.chart.specs.Chart.{Step}
 use Rattle.chart.specs.Reading.{readChart, stepAt}
 use Rattle.chart.specs.declared.Shape.{Shape}
@@ -29,6 +30,22 @@ pub record Table (n m : ℕ) (steps : List Step) (into : List ℕ) : Type 0 wher
   pub by-any : (u s : ℕ) → u < n → So (member (getD into u 0) s) ↔ ((a : ℕ) × HasStep steps s a u)
   pub none-after : (e : ℕ) → (m + 1) * n ≤ e → getD into e 0 ≡ 0
 
+-- ---- the steps turned back
+
+-- the step from the target to the source
+abbrev pub turn : Step → Step
+turn v = record { source = v .target; action = v .action; target = v .source }
+
+-- the steps as they are, or all of them turned back
+abbrev pub directed : Bool → List Step → List Step
+directed false steps = steps
+directed true steps = map turn steps
+
+-- a table has m + 1 rows of n words, none with a bit at n or above
+pub record Sized (n m : ℕ) (into : List ℕ) : Type 0 where
+  pub room : (m + 1) * n ≤ length into
+  pub no-bit-above : (e : ℕ) → getD into e 0 < 2 ^ n
+
 -- ---- what the parts say that make it
 
 -- no word has a bit
@@ -42,6 +59,10 @@ withBit s e into = set into e (bitOr (getD into e 0) (2 ^ s))
 -- the source's bit is set in the target's word, in row 0 and in the action's own
 abbrev pub withStep : ℕ → ℕ → ℕ → ℕ → List ℕ → List ℕ
 withStep n source action target into = withBit source ((action + 1) * n + target) (withBit source target into)
+
+-- the same of the step as it is, or turned back
+abbrev pub withDirected : Bool → ℕ → ℕ → ℕ → ℕ → List ℕ → List ℕ
+withDirected back n source action target into = pick back (withStep n target action source into) (withStep n source action target into)
 
 -- of the triples from `first` on, r is the number of the first with a source later than s, or t
 abbrev pub StopsAt : List ℕ → Shape → ℕ → ℕ → ℕ → Type 0

@@ -3,6 +3,7 @@
 use both_solutions::BothAnswer;
 use check_reasons::CheckAnswer;
 use compare::CompareAnswer;
+use equal::EqualAnswer;
 use lent::LentAnswer;
 use refusal::Refusal;
 use relation::MatrixAnswer;
@@ -11,7 +12,7 @@ use solve::Solved;
 ghost use mathlib.Core.Path.{_≡_};
 ghost use Prim.Native.Nat.{_≤_};
 ghost use Rattle.calls.specs.Packing.{packed};
-ghost use Rattle.calls.specs.Shown.{lent, solvedIn, BothShown, CheckShown, CompareShown, MarksShown, PropertyShown, ReasonsShown, ShortFormShown, SimulationShown};
+ghost use Rattle.calls.specs.Shown.{lent, solvedIn, BothShown, CheckShown, CompareShown, EqualPairsShown, EqualRowsShown, MarksShown, PropertyShown, ReasonsShown, ShortFormShown, SimulationShown};
 
 // The refusal in one number. Its parts are small: a place is at most 3,172 in a chart, 403 in a sheet and 4,032 in a list,
 // a byte at most 2.
@@ -65,6 +66,36 @@ pub extern "C" fn rebatelion_simulation(
             0
         }
         MatrixAnswer::Refused(r) => pack(r),
+    }
+}
+
+// The equal states, a word for each state, in 64 words; the number of states.
+#[no_mangle]
+pub extern "C" fn rebatelion_equal_rows(chart: &[u8], rows: &mut [u64; 64], states: &mut u64) -> u64
+    ensures { λ r. ⌜ EqualRowsShown (now (chart .entry)) (now (rows .entry)) (now (rows .exit)) (lent (now (states .entry)) (now (states .exit))) r ⌝ }
+{
+    let answer = equal::equal_rows(chart, rows);
+    match answer {
+        EqualAnswer::Counted(count) => {
+            *states = count as u64;
+            0
+        }
+        EqualAnswer::Refused(r) => pack(r),
+    }
+}
+
+// How many pairs of equal states there are.
+#[no_mangle]
+pub extern "C" fn rebatelion_equal_pairs(chart: &[u8], pairs: &mut u64) -> u64
+    ensures { λ r. ⌜ EqualPairsShown (now (chart .entry)) (lent (now (pairs .entry)) (now (pairs .exit))) r ⌝ }
+{
+    let answer = equal::equal_pairs(chart);
+    match answer {
+        EqualAnswer::Counted(total) => {
+            *pairs = total as u64;
+            0
+        }
+        EqualAnswer::Refused(r) => pack(r),
     }
 }
 

@@ -140,6 +140,10 @@ no-member n w s h l =
     let z : w / 2 ^ s ≡ 0 = omega (arith, shr-lt {n = w} 0 s small) in
     rw z
 
+-- the empty set has none
+pub none-member : (s : ℕ) → member 0 s ≡ false
+none-member s = no-member 0 0 s (omega arith) (omega arith)
+
 -- a word is that of its members
 pub word-ext : (n w : ℕ) → w < 2 ^ n → wordOf n (member w) ≡ w
 unfolding wordOf
@@ -157,6 +161,17 @@ word-ext (suc n) w h =
     top zero k = refl
     top (suc zero) k = refl
     top (suc (suc x)) k = absurd (omega arith)
+
+-- two words below 2 ^ n with the same members below n are equal
+pub same-members : (n v w : ℕ) → v < 2 ^ n → w < 2 ^ n → ((s : ℕ) → s < n → member v s ≡ member w s) → v ≡ w
+same-members n v w h k e = sym (word-ext n v h) ∙ word-cong n _ _ e ∙ word-ext n w k
+
+-- all n states but those of a word are the others
+pub others-word : (n w : ℕ) → w < 2 ^ n → 2 ^ n - 1 - w ≡ wordOf n (λ x. neg (member w x))
+others-word n w h = omega (arith, not-word n (member w), word-ext n w h)
+
+pub others-member : (n w s : ℕ) → w < 2 ^ n → s < n → member (2 ^ n - 1 - w) s ≡ neg (member w s)
+others-member n w s h l = rw (others-word n w h) (word-member n s (λ x. neg (member w x)) l)
 
 -- no test above n adds to its word
 trimmed : (n k : ℕ) (P : ℕ → Bool) → n ≤ k → ((x : ℕ) → n ≤ x → P x ≡ false) → wordOf k P ≡ wordOf n P

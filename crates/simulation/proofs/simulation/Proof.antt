@@ -2,9 +2,9 @@ use borrow.Author.Needs.{needs}
 use native.Mathlib.Omega.{arith}
 use mathlib.Core.Path.{sym, _∙_}
 use Rattle.chart.proofs.Accepted.{accepted}
-use Rattle.ranges.proofs.Ranges.{stands-chart}
 use Rattle.relation.proofs.Cells.{cells-few}
 use Rattle.relation.proofs.Promise.{promise-chart, promise-short, promise-worked}
+use Rattle.simulation.proofs.Cells.{simulated}
 use Rattle.simulation.proofs.Promise.{simulation-of}
 use Rattle.simulation.proofs.simulation.Statement.{statement}
 use Rattle.simulation.proofs.simulation.Tie as tie
@@ -34,28 +34,24 @@ returns-2 c =
     let read = sym (c .before .before .before .before .before .read-chart .ensures .0) ∙ c .before .before .before .s .given .1 in
     promise-short _ _ read _ _ (c .before .if1 .taken) (c .of-lent .ensures)
 
-add-work-out : tie.Need-add-work-out
-add-work-out c =
-    let read = sym (c .before .before .before .before .read-chart .ensures .0) ∙ c .before .before .s .given .1 in
-    omega (arith, accepted _ _ read .states-few)
-
-add-work-out-2 : tie.Need-add-work-out-2
-add-work-out-2 c =
-    let a = accepted _ _ (sym (c .before .before .before .before .before .read-chart .ensures .0) ∙ c .before .before .before .s .given .1) in
-    omega (arith, a .states-few, a .actions-few)
-
 work-out-requires : tie.Need-work-out-requires
-work-out-requires c κs =
-    let a = accepted _ _ (sym (c .before .before .before .before .before .before .read-chart .ensures .0) ∙ c .before .before .before .before .s .given .1) in
-    (stands-chart _ _ a, (a .states-some, c .before .before .if1 .left))
+work-out-requires c κs = sym (c .before .before .before .before .read-chart .ensures .0) ∙ c .before .before .s .given .1
+
+put-cells-requires : tie.Need-put-cells-requires
+put-cells-requires c κs =
+    let test = c .before .before .before .before in
+    let read = sym (test .before .before .before .before .read-chart .ensures .0) ∙ test .before .before .s .given .1 in
+    ((accepted _ _ read .states-few, test .if1 .left), search needs)
 
 same-length : tie.Need-same-length
 same-length c = search needs
 
 returns-3 : tie.Need-returns-3
 returns-3 c =
-    let read = sym (c .before .before .before .before .before .before .before .before .before .read-chart .ensures .0) ∙ c .before .before .before .before .before .before .before .s .given .1 in
-    promise-worked _ _ read _ _ _ (c .before .before .before .before .before .if1 .left) (c .before .before .work-out .ensures) (λ given some targets w. simulation-of _ _ targets w)
+    let work = c .before .before .before .before .before .before in
+    let test = work .before in
+    let read = sym (test .before .before .before .before .read-chart .ensures .0) ∙ test .before .before .s .given .1 in
+    promise-worked _ _ read _ _ _ (test .if1 .left) (simulated _ (work .work-out .ensures) (c .before .before .put-cells .ensures)) (λ some targets w. simulation-of _ _ targets w)
 
 pub simulation-spec : {M : Type 1} → statement M
 simulation-spec =
@@ -68,8 +64,7 @@ simulation-spec =
     mul-if1
     of-lent-requires
     returns-2
-    add-work-out
-    add-work-out-2
     work-out-requires
+    put-cells-requires
     same-length
     returns-3)

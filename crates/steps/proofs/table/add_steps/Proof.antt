@@ -8,19 +8,19 @@ use lib.ListN.{length}
 use Rattle.chart.specs.Reading.{stepAt, stepsAt}
 use Rattle.chart.proofs.Accepted.{accepted}
 use Rattle.chart.proofs.Steps.{stepsAt-snoc}
-use Rattle.steps.specs.Table.{Table}
-use Rattle.steps.proofs.Filling.{table-more}
+use Rattle.steps.specs.Table.{Table, directed}
+use Rattle.steps.proofs.Filling.{table-directed}
 use Rattle.steps.proofs.table.add_steps.Statement.{statement}
 use Rattle.steps.proofs.table.add_steps.Tie as tie
 
 -- the loop knows m by where the triples begin
 abbrev Inv-loop : tie.InvT-loop
-Inv-loop chart s first into₀ n at t i₀ into i =
-    (i ≤ t) × (length into ≡ length into₀) × ((m : ℕ) → at ≡ 4 + n + m → Table n m (stepsAt chart at i) into)
+Inv-loop chart back s first into₀ n at t i₀ into i =
+    (i ≤ t) × (length into ≡ length into₀) × ((m : ℕ) → at ≡ 4 + n + m → Table n m (directed back (stepsAt chart at i)) into)
     × (first ≤ i) × ((j : ℕ) → first ≤ j → j < i → stepAt chart (at + 3 * j) .source ≤ s)
 
 abbrev μ-loop : tie.MeasureT-loop
-μ-loop chart s first into₀ n at t i₀ into i = t - i
+μ-loop chart back s first into₀ n at t i₀ into i = t - i
 
 add-at : tie.Need-add-at Inv-loop μ-loop
 add-at c =
@@ -63,33 +63,33 @@ same-length c = c .before .before .before .loop .inv .1
 returns : tie.Need-returns Inv-loop μ-loop
 returns c = let l = c .before .before .before .loop in ((l .inv .3, l .inv .0, l .inv .4, λ h. c .if1 .taken), l .inv .2 _ refl)
 
-shared-slice-read-add-step : tie.Need-shared-slice-read-add-step Inv-loop μ-loop
-shared-slice-read-add-step c =
+shared-slice-read-add-directed : tie.Need-shared-slice-read-add-directed Inv-loop μ-loop
+shared-slice-read-add-directed c =
     let start = c .before .before .before .before .before .before .before .before .before in
     omega (arith, accepted (start .args .chart .now) (start .args .shape) (start .pre .0))
 
-add-add-step : tie.Need-add-add-step Inv-loop μ-loop
-add-add-step c =
+add-add-directed : tie.Need-add-add-directed Inv-loop μ-loop
+add-add-directed c =
     let start = c .before .before .before .before .before .before .before .before .before in
     omega (arith, accepted (start .args .chart .now) (start .args .shape) (start .pre .0))
 
-shared-slice-read-add-step-2 : tie.Need-shared-slice-read-add-step-2 Inv-loop μ-loop
-shared-slice-read-add-step-2 c =
+shared-slice-read-add-directed-2 : tie.Need-shared-slice-read-add-directed-2 Inv-loop μ-loop
+shared-slice-read-add-directed-2 c =
     let start = c .before .before .before .before .before .before .before .before .before .before in
     omega (arith, accepted (start .args .chart .now) (start .args .shape) (start .pre .0))
 
-add-add-step-2 : tie.Need-add-add-step-2 Inv-loop μ-loop
-add-add-step-2 c =
+add-add-directed-2 : tie.Need-add-add-directed-2 Inv-loop μ-loop
+add-add-directed-2 c =
     let start = c .before .before .before .before .before .before .before .before .before .before in
     omega (arith, accepted (start .args .chart .now) (start .args .shape) (start .pre .0))
 
-shared-slice-read-add-step-3 : tie.Need-shared-slice-read-add-step-3 Inv-loop μ-loop
-shared-slice-read-add-step-3 c =
+shared-slice-read-add-directed-3 : tie.Need-shared-slice-read-add-directed-3 Inv-loop μ-loop
+shared-slice-read-add-directed-3 c =
     let start = c .before .before .before .before .before .before .before .before .before .before .before in
     omega (arith, accepted (start .args .chart .now) (start .args .shape) (start .pre .0))
 
-add-step-requires : tie.Need-add-step-requires Inv-loop μ-loop
-add-step-requires c κs =
+add-directed-requires : tie.Need-add-directed-requires Inv-loop μ-loop
+add-directed-requires c κs =
     let start = c .before .before .before .before .before .before .before .before .before .before .before in
     let l = c .before .before .before .before .before .before .before .loop in
     let A = accepted (start .args .chart .now) (start .args .shape) (start .pre .0) in
@@ -112,7 +112,7 @@ loop-again c =
       search needs,
       c .before .into .given ∙ l .inv .1,
       λ m e. let q : m ≡ a .shape .m = omega arith in
-          rw (q, stepsAt-snoc (a .chart .now) at (l .i), c .before .before .add-step .ensures) (table-more _ _ _ _ _ u (l .inv .2 _ refl)),
+          rw (q, stepsAt-snoc (a .chart .now) at (l .i), c .before .before .add-directed .ensures) (table-directed (a .back) _ _ _ _ _ u (l .inv .2 _ refl)),
       omega (arith, l .inv .3),
       λ j b h. elim (decLt j (l .i)) [ yes k ↦ l .inv .4 j b k | no k ↦ let e : j ≡ l .i = omega arith in rw e (c .before .before .before .before .before .before .before .if1 .left) ],
     )
@@ -138,12 +138,12 @@ add-steps-spec =
     cast-if1
     same-length
     returns
-    shared-slice-read-add-step
-    add-add-step
-    shared-slice-read-add-step-2
-    add-add-step-2
-    shared-slice-read-add-step-3
-    add-step-requires
+    shared-slice-read-add-directed
+    add-add-directed
+    shared-slice-read-add-directed-2
+    add-add-directed-2
+    shared-slice-read-add-directed-3
+    add-directed-requires
     add-i
     loop-less
     loop-again

@@ -6,23 +6,23 @@ use Prim.Native.Nat.{_+_, _*_, _-_, _≤_, _<_}
 use lib.ListN.{length}
 use Rattle.chart.specs.Reading.{stepAt, stepsAt}
 use Rattle.chart.proofs.Accepted.{accepted}
-use Rattle.steps.specs.Table.{Table}
+use Rattle.steps.specs.Table.{Table, directed}
 use Rattle.steps.proofs.Filling.{table-none}
 use Rattle.steps.proofs.table.fill.Statement.{statement}
 use Rattle.steps.proofs.table.fill.Tie as tie
 
 -- all triples are in whose source is below s
 abbrev Inv-loop : tie.InvT-loop
-Inv-loop chart shape into₀ n i₀ s₀ into i s =
+Inv-loop chart shape back into₀ n i₀ s₀ into i s =
     (s ≤ n) × (length into ≡ length into₀) × (i ≤ shape .t) × (i < shape .t → s ≤ stepAt chart (4 + shape .n + shape .m + 3 * i) .source)
-    × Table (shape .n) (shape .m) (stepsAt chart (4 + shape .n + shape .m) i) into
+    × Table (shape .n) (shape .m) (directed back (stepsAt chart (4 + shape .n + shape .m) i)) into
 
 abbrev μ-loop : tie.MeasureT-loop
-μ-loop chart shape into₀ n i₀ s₀ into i s = n - s
+μ-loop chart shape back into₀ n i₀ s₀ into i s = n - s
 
 loop-holds : tie.Need-loop-holds Inv-loop μ-loop
 unfolding stepsAt
-loop-holds c = let h = c .before .before .pre in (search needs, refl, search needs, λ l. omega arith, table-none _ _ _ (h .1 .0) (h .1 .1))
+loop-holds c = let h = c .before .before .pre in (search needs, refl, search needs, λ l. omega arith, table-none (c .before .before .args .back) _ _ _ (h .1 .0) (h .1 .1))
 
 add-steps-requires : tie.Need-add-steps-requires Inv-loop μ-loop
 add-steps-requires c κs = let l = c .before .before .loop in (c .before .before .before .before .before .pre .0, (l .inv .2, l .inv .4))
