@@ -13,6 +13,8 @@
  * - A buffer is a pointer and a length. An answer fills its start; the bytes after that stay as they were.
  * - A number is a pointer to one aligned uint64_t, never null. An answer is written there.
  * - Three numbers are a pointer to an array of three, aligned as one is, never null. An answer is written to all three.
+ * - 64 numbers are a pointer to an array of 64, aligned as one is, never null. An answer is written to all 64, however few states
+ *   the chart has.
  * - Everything lent must stay in place until the call returns, and may be freed or reused from then on: no pointer is kept.
  * - What is written, a buffer, a number or an array of numbers, must not overlap any other part that is lent to the same call,
  *   another array included. Two inputs may overlap, or be the same bytes, since both are only read.
@@ -92,6 +94,24 @@ extern "C" {
  * Refuses what is wrong with the chart; then 14 where the buffer has fewer than n * n bytes. */
 uint64_t rebatelion_marks(const uint8_t *chart, size_t chart_len, uint8_t *buffer, size_t buffer_len, uint64_t *states,
                           uint64_t *rounds);
+
+/* Which states are equal (strongly bisimilar), one word a row: all that the zeros of rebatelion_marks say, without a buffer.
+ *
+ * Answers n, the number of states, in *states, and all 64 words of rows. Bit q of rows[p] is set exactly where states p and q are
+ * equal, that is, where their mark is 0. Rows from n on are 0, and so are the bits from n on of every row.
+ * So rows[p] is the class of state p: it holds p itself, the states of a class have the same row, and p is the lowest state of its
+ * class where no bit below p is set in rows[p].
+ *
+ * Refuses what is wrong with the chart. */
+uint64_t rebatelion_equal_rows(const uint8_t *chart, size_t chart_len, uint64_t rows[64], uint64_t *states);
+
+/* How many pairs (p, q) of states are equal, in both orders and p with itself included.
+ *
+ * Answers in *pairs the number of bits that rebatelion_equal_rows sets, which is that of the zeros of rebatelion_marks: at least n,
+ * and n exactly where no two different states are equal; n * n where all are.
+ *
+ * Refuses what is wrong with the chart. */
+uint64_t rebatelion_equal_pairs(const uint8_t *chart, size_t chart_len, uint64_t *pairs);
 
 /* The largest simulation.
  *
