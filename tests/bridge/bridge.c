@@ -8,13 +8,13 @@
 /* the lent parts, in the order of their rooms */
 enum { CHART, SHEET, SECOND, LIST, BUFFER, PARTS };
 
-/* words before, between and after the two arrays of lent numbers */
+/* words before, between and after the arrays of lent numbers */
 enum { AROUND = 4 };
 
-/* a frame's first words: the question, the name, which parts are null, the margin, a length for each part, three numbers and again
- * three, with the words around them */
+/* a frame's first words: the question, the name, which parts are null, the margin, a length for each part, three numbers, again
+ * three, and 64, with the words around them */
 enum { QUESTION, NAME, NULLS, MARGIN, LENGTHS, NUMBERS = LENGTHS + PARTS + AROUND, SECOND_THREE = NUMBERS + 3 + AROUND };
-enum { WORDS = SECOND_THREE + 3 + AROUND };
+enum { ROWS = SECOND_THREE + 3 + AROUND, WORDS = ROWS + 64 + AROUND };
 
 /* Puts the answer in the place of the question; 0 where there is no such question. */
 static int answer(uint64_t w[WORDS], uint8_t *part[PARTS]) {
@@ -22,7 +22,7 @@ static int answer(uint64_t w[WORDS], uint8_t *part[PARTS]) {
     uint8_t *buffer = part[BUFFER];
     size_t chart_len = w[LENGTHS + CHART], sheet_len = w[LENGTHS + SHEET], second_len = w[LENGTHS + SECOND];
     size_t list_len = w[LENGTHS + LIST], buffer_len = w[LENGTHS + BUFFER];
-    uint64_t *n = w + NUMBERS, *greatest = w + SECOND_THREE;
+    uint64_t *n = w + NUMBERS, *greatest = w + SECOND_THREE, *rows = w + ROWS;
     switch (w[QUESTION]) {
     case 0: w[QUESTION] = rebatelion_marks(chart, chart_len, buffer, buffer_len, n, n + 1); return 1;
     case 1: w[QUESTION] = rebatelion_simulation(chart, chart_len, buffer, buffer_len, n, n + 1); return 1;
@@ -32,6 +32,8 @@ static int answer(uint64_t w[WORDS], uint8_t *part[PARTS]) {
     case 5: w[QUESTION] = rebatelion_reasons(chart, chart_len, buffer, buffer_len, n); return 1;
     case 6: w[QUESTION] = rebatelion_check_reasons(chart, chart_len, list, list_len, n); return 1;
     case 7: w[QUESTION] = rebatelion_both_solutions(chart, chart_len, sheet, sheet_len, n, greatest); return 1;
+    case 8: w[QUESTION] = rebatelion_equal_rows(chart, chart_len, rows, n); return 1;
+    case 9: w[QUESTION] = rebatelion_equal_pairs(chart, chart_len, n); return 1;
     default: return 0;
     }
 }

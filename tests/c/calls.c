@@ -34,16 +34,17 @@ static const uint8_t l[] = {3, 1, 2, 3, 1, 10, 3, 0, 0, 0, 0, 1, 0, 1, 1, 0, 2};
 static const uint8_t one[] = {3, 1, 3, 6, 3, 10, 20, 30, 3, 0, 0, 0, 1, 1, 1, 2, 1, 2, 2};
 static const uint8_t two[] = {4, 2, 4, 5, 6, 3, 10, 20, 30, 4, 0, 0, 0, 1, 0, 0, 2, 1, 1, 3, 2, 2, 3};
 
-/* lent numbers, two lent arrays of three with a number before, between and after them, and a lent buffer, with what they hold
- * before a call */
-enum { KEPT = 77, THREES = 9, LENT = 50 };
-static uint64_t x, y, z, threes[THREES];
-static uint64_t *const least = threes + 1, *const greatest = threes + 5;
+/* lent numbers, two lent arrays of three with a number before, between and after them, one of 64 that may lie at two places with a
+ * number before and after it, and a lent buffer, with what they hold before a call */
+enum { KEPT = 77, THREES = 9, ROWS = 64, ROWED = ROWS + 3, LENT = 50 };
+static uint64_t x, y, z, threes[THREES], rowed[ROWED];
+static uint64_t *const least = threes + 1, *const greatest = threes + 5, *const rows = rowed + 1;
 static uint8_t before[LENT], buffer[LENT];
 
 static void fill(void) {
     x = y = z = KEPT;
     for (int i = 0; i < THREES; i++) threes[i] = KEPT;
+    for (int i = 0; i < ROWED; i++) rowed[i] = KEPT;
     for (int i = 0; i < LENT; i++) before[i] = buffer[i] = (uint8_t)(200 + i);
 }
 
@@ -53,6 +54,7 @@ static void expect_kept(int line) {
     expect_number(line, "second number", y, KEPT);
     expect_number(line, "third number", z, KEPT);
     for (int i = 0; i < THREES; i++) expect_number(line, "number in or beside an array", threes[i], KEPT);
+    for (int i = 0; i < ROWED; i++) expect_number(line, "row or number beside the rows", rowed[i], KEPT);
     expect_number(line, "buffer kept", memcmp(buffer, before, LENT) == 0, 1);
     fill();
 }
@@ -103,6 +105,56 @@ static void simulation(void) {
     const uint8_t of_l[9] = {1, 1, 0, 1, 1, 0, 1, 1, 1};
     asked = "simulation";
     matrix(rebatelion_simulation, of_l, 1);
+}
+
+/* the rows of equal states are these and then 0, whatever was there and wherever they lie, and what is around them stays; and so
+ * many pairs are equal */
+static void equal_are(int line, const uint8_t *chart, size_t chart_len, int states, const uint64_t *expected, uint64_t pairs) {
+    for (int at = 1; at <= 2; at++) {
+        fill();
+        expect_number(line, "refusal", rebatelion_equal_rows(chart, chart_len, rowed + at, &x), 0);
+        expect_number(line, "states", x, (uint64_t)states);
+        for (int i = 0; i < ROWED; i++) {
+            int row = i - at, within = row >= 0 && row < ROWS;
+            expect_number(line, "row or number beside the rows", rowed[i], !within ? KEPT : row < states ? expected[row] : 0);
+        }
+        expect_number(line, "second number", y, KEPT);
+    }
+    fill();
+    expect_number(line, "refusal", rebatelion_equal_pairs(chart, chart_len, &x), 0);
+    expect_number(line, "pairs", x, pairs);
+    x = KEPT;
+    expect_kept(line);
+}
+#define EQUAL_ARE(chart, chart_len, states, expected, pairs) equal_are(__LINE__, chart, chart_len, states, expected, pairs)
+
+/* two chains of two states, 0 to 1 and 2 to 3, and a state that loops */
+static const uint8_t chains[] = {5, 1, 2, 3, 4, 5, 1, 10, 3, 0, 0, 0, 1, 2, 0, 3, 4, 0, 4};
+
+static void equal(void) {
+    const uint8_t alone[] = {1, 0, 0, 0, 0}, rest[] = {3, 0, 0, 0, 0, 0, 0};
+    asked = "equal rows and pairs";
+    EQUAL_ARE(e, sizeof e, 6, ((const uint64_t[]){1, 2, 4, 8, 16, 32}), 6);
+    EQUAL_ARE(l, sizeof l, 3, ((const uint64_t[]){1, 2, 4}), 3);
+    EQUAL_ARE(chains, sizeof chains, 5, ((const uint64_t[]){5, 10, 5, 10, 16}), 9);
+    EQUAL_ARE(alone, sizeof alone, 1, ((const uint64_t[]){1}), 1);
+    EQUAL_ARE(rest, sizeof rest, 3, ((const uint64_t[]){7, 7, 7}), 9);
+
+    fill();
+    EXPECT_REFUSED(rebatelion_equal_rows(NULL, 0, rows, &x), 0, 1, 0, 0);
+    EXPECT_KEPT();
+    EXPECT_REFUSED(rebatelion_equal_pairs(NULL, 0, &x), 0, 1, 0, 0);
+    EXPECT_KEPT();
+    for (size_t length = 0; length < sizeof chains; length++) {
+        EXPECT_REFUSED(rebatelion_equal_rows(chains, length, rows, &x), 0, 1, length, 0);
+        EXPECT_KEPT();
+        EXPECT_REFUSED(rebatelion_equal_pairs(chains, length, &x), 0, 1, length, 0);
+        EXPECT_KEPT();
+    }
+    EXPECT_REFUSED(rebatelion_equal_rows(e + 1, sizeof e - 1, rows, &x), 0, 5, 6, 0);
+    EXPECT_KEPT();
+    EXPECT_REFUSED(rebatelion_equal_pairs(e + 1, sizeof e - 1, &x), 0, 5, 6, 0);
+    EXPECT_KEPT();
 }
 
 /* L's formulas, by kind: 0, unsaid, is the least */
@@ -424,6 +476,10 @@ static void line(const uint8_t *chart, size_t length, unsigned number, unsigned 
     EXPECT_KEPT();
     EXPECT_REFUSED(rebatelion_simulation(chart, length, buffer, LENT, &x, &y), 0, number, place, byte);
     EXPECT_KEPT();
+    EXPECT_REFUSED(rebatelion_equal_rows(chart, length, rows, &x), 0, number, place, byte);
+    EXPECT_KEPT();
+    EXPECT_REFUSED(rebatelion_equal_pairs(chart, length, &x), 0, number, place, byte);
+    EXPECT_KEPT();
     EXPECT_REFUSED(rebatelion_property(chart, length, f, sizeof f, &x, &y, &z), 0, number, place, byte);
     EXPECT_KEPT();
     EXPECT_REFUSED(rebatelion_both_solutions(chart, length, f, sizeof f, least, greatest), 0, number, place, byte);
@@ -500,6 +556,47 @@ static void longest(void) {
     EXPECT_REFUSED(rebatelion_marks(longest_chart, REBATELION_MAX_CHART + 1, room, REBATELION_MATRIX, &x, &y), 0, 8, 3172, 0);
     EXPECT_KEPT();
     EXPECT_REFUSED(rebatelion_marks(longest_chart, REBATELION_MAX_CHART, room, REBATELION_MATRIX - 1, &x, &y), 2, 14, 0, 0);
+    EXPECT_KEPT();
+}
+
+/* a chain of 64 states, the last of which rests */
+static uint8_t chain[4 + 64 + 1 + 3 * 63];
+
+static void make_chain(void) {
+    uint8_t *at = chain;
+    *at++ = 64;
+    for (int i = 0; i < 64; i++) *at++ = (uint8_t)i;
+    for (int i = 0; i < 4; i++) *at++ = (uint8_t[]){1, 7, 63, 0}[i];
+    for (int i = 0; i < 63; i++) {
+        *at++ = (uint8_t)i;
+        *at++ = 0;
+        *at++ = (uint8_t)(i + 1);
+    }
+}
+
+/* states 0 to 31 of the longest chart step alike, and the others rest; of the chain no two are equal; without steps all are */
+static void longest_rows(void) {
+    static uint8_t held[4 + REBATELION_MAX_STATES];
+    uint64_t halves[ROWS], own[ROWS], all[ROWS];
+    for (int p = 0; p < ROWS; p++) {
+        halves[p] = p < 32 ? UINT32_MAX : ~(uint64_t)UINT32_MAX;
+        own[p] = UINT64_C(1) << p;
+        all[p] = UINT64_MAX;
+    }
+    asked = "longest rows";
+    EXPECT(REBATELION_MAX_STATES, ROWS);
+    EQUAL_ARE(longest_chart, REBATELION_MAX_CHART, 64, halves, 2048);
+    EQUAL_ARE(chain, sizeof chain, 64, own, 64);
+    EQUAL_ARE(held, make(held, 64, 0, 0, 0), 64, all, 4096);
+    fill();
+    EXPECT_REFUSED(rebatelion_equal_rows(longest_chart, REBATELION_MAX_CHART + 1, rows, &x), 0, 8, 3172, 0);
+    EXPECT_KEPT();
+    EXPECT_REFUSED(rebatelion_equal_pairs(longest_chart, REBATELION_MAX_CHART + 1, &x), 0, 8, 3172, 0);
+    EXPECT_KEPT();
+    held[0] = 65;
+    EXPECT_REFUSED(rebatelion_equal_rows(held, sizeof held, rows, &x), 0, 2, 0, 0);
+    EXPECT_KEPT();
+    EXPECT_REFUSED(rebatelion_equal_pairs(held, sizeof held, &x), 0, 2, 0, 0);
     EXPECT_KEPT();
 }
 
@@ -591,21 +688,6 @@ static void longest_lists(void) {
     EXPECT_KEPT();
 }
 
-/* a chain of 64 states, the last of which rests */
-static uint8_t chain[4 + 64 + 1 + 3 * 63];
-
-static void make_chain(void) {
-    uint8_t *at = chain;
-    *at++ = 64;
-    for (int i = 0; i < 64; i++) *at++ = (uint8_t)i;
-    for (int i = 0; i < 4; i++) *at++ = (uint8_t[]){1, 7, 63, 0}[i];
-    for (int i = 0; i < 63; i++) {
-        *at++ = (uint8_t)i;
-        *at++ = 0;
-        *at++ = (uint8_t)(i + 1);
-    }
-}
-
 /* the most rounds of either solution: "at rest, or some step to X" from below, "some step to X" from above */
 static void most_rounds(void) {
     const uint8_t some[] = {1, 0, 2, 5, 255, 0}, reach[] = {1, 2, 5, 4, 6, 255, 2, 5, 255, 0};
@@ -642,6 +724,7 @@ static void longest_reasons(void) {
 int main(void) {
     marks();
     simulation();
+    equal();
     property();
     both_solutions();
     short_form();
@@ -650,10 +733,11 @@ int main(void) {
     check_reasons();
     lines();
     longest();
+    make_chain();
+    longest_rows();
     longest_lines();
     longest_sheets();
     longest_lists();
-    make_chain();
     most_rounds();
     longest_reasons();
     printf(wrong ? "calls from C FAILED\n" : "calls from C passed\n");

@@ -15,9 +15,11 @@ pub enum Question {
     Reasons = 5,
     CheckReasons = 6,
     BothSolutions = 7,
+    EqualRows = 8,
+    EqualPairs = 9,
 }
 
-pub const QUESTIONS: [Question; 8] = [
+pub const QUESTIONS: [Question; 10] = [
     Question::Marks,
     Question::Simulation,
     Question::Property,
@@ -26,6 +28,8 @@ pub const QUESTIONS: [Question; 8] = [
     Question::Reasons,
     Question::CheckReasons,
     Question::BothSolutions,
+    Question::EqualRows,
+    Question::EqualPairs,
 ];
 
 /// Bytes before and after a lent part.
@@ -58,12 +62,15 @@ impl Room {
     }
 }
 
-/// Words before, between and after the two arrays of lent numbers.
+/// Words before, between and after the arrays of lent numbers.
 pub const AROUND: usize = 4;
 
+/// A word for each state that a chart can have: bit q of word p for the pair (p, q).
+pub type Rows = [u64; 64];
+
 /// One call with all that is lent to it; the chart is the first where there are two. The numbers are those of the prototype, in
-/// its order: of both solutions two arrays of three, of the other questions up to three at the start. The others are not lent, and
-/// neither are the words around each three, nor the parts that the prototype does not have.
+/// its order: of both solutions two arrays of three, of the other questions up to three at the start, beside which equal rows have their
+/// array of 64. The others are not lent, and neither are the words around each array, nor the parts that the prototype does not have.
 #[derive(Clone, PartialEq, Eq)]
 pub struct Call {
     pub question: Question,
@@ -75,7 +82,8 @@ pub struct Call {
     pub list: Room,
     pub buffer: Room,
     pub numbers: [u64; 6],
-    pub around: [[u64; AROUND]; 3],
+    pub rows: Rows,
+    pub around: [[u64; AROUND]; 4],
 }
 
 /// The two arrays of numbers: of both solutions the word, the count and the rounds of the least, and those of the greatest.
@@ -83,25 +91,28 @@ pub fn halves([a, b, c, d, e, f]: [u64; 6]) -> [[u64; 3]; 2] {
     [[a, b, c], [d, e, f]]
 }
 
-/// The words of a call as they lie in memory: three numbers and again three, with the words around them.
-type Words = [u64; 6 + 3 * AROUND];
+/// The words of a call as they lie in memory: three numbers, again three, and 64, with the words around them.
+type Words = [u64; 6 + 64 + 4 * AROUND];
 
-/// Where the two arrays of numbers start there.
+/// Where the arrays of numbers start there.
 const FIRST: usize = AROUND;
 const SECOND: usize = FIRST + 3 + AROUND;
+const ROWS: usize = SECOND + 3 + AROUND;
 
 impl Call {
     fn words(&self) -> Words {
         let (first, second) = self.numbers.split_at(3);
-        let [before, between, after] = &self.around;
-        [before.as_slice(), first, between, second, after].concat().try_into().expect("as many as there are")
+        let [before, between, after, end] = &self.around;
+        let words = [before.as_slice(), first, between, second, after, &self.rows, end].concat();
+        words.try_into().expect("as many as there are")
     }
 
     /// The words as a call left them.
     fn keep(&mut self, words: &Words) {
         self.numbers[..3].copy_from_slice(&words[FIRST..FIRST + 3]);
         self.numbers[3..].copy_from_slice(&words[SECOND..SECOND + 3]);
-        for (around, at) in self.around.iter_mut().zip([0, FIRST + 3, SECOND + 3]) {
+        self.rows.copy_from_slice(&words[ROWS..ROWS + 64]);
+        for (around, at) in self.around.iter_mut().zip([0, FIRST + 3, SECOND + 3, ROWS + 64]) {
             around.copy_from_slice(&words[at..at + AROUND]);
         }
     }
@@ -112,7 +123,7 @@ pub use linked::Archive;
 
 #[cfg(linked)]
 mod linked {
-    use super::{Call, Question, Room, FIRST, SECOND};
+    use super::{Call, Question, Room, FIRST, ROWS, SECOND};
 
     type In = *const u8;
     type Out = *mut u8;
@@ -146,6 +157,8 @@ mod linked {
         fn rebatelion_reasons(chart: In, cn: usize, buffer: Out, bn: usize, written: Number) -> u64;
         fn rebatelion_check_reasons(chart: In, cn: usize, list: In, ln: usize, lines: Number) -> u64;
         fn rebatelion_both_solutions(chart: In, cn: usize, sheet: In, sn: usize, least: Number, greatest: Number) -> u64;
+        fn rebatelion_equal_rows(chart: In, cn: usize, rows: Number, states: Number) -> u64;
+        fn rebatelion_equal_pairs(chart: In, cn: usize, pairs: Number) -> u64;
     }
 
     pub struct Archive;
@@ -179,7 +192,7 @@ mod linked {
         // SAFETY: the prototypes are those of include/rebatelion.h; each part lies in its own room, and a null one is empty; the
         // numbers lie among the words
         unsafe {
-            let [a, b, c, d] = [FIRST, FIRST + 1, FIRST + 2, SECOND].map(|at| words.add(at));
+            let [a, b, c, d, rows] = [FIRST, FIRST + 1, FIRST + 2, SECOND, ROWS].map(|at| words.add(at));
             match call.question {
                 Question::Marks => rebatelion_marks(chart, chart_len, buffer, buffer_len, a, b),
                 Question::Simulation => rebatelion_simulation(chart, chart_len, buffer, buffer_len, a, b),
@@ -191,6 +204,8 @@ mod linked {
                 Question::Reasons => rebatelion_reasons(chart, chart_len, buffer, buffer_len, a),
                 Question::CheckReasons => rebatelion_check_reasons(chart, chart_len, list, list_len, a),
                 Question::BothSolutions => rebatelion_both_solutions(chart, chart_len, sheet, sheet_len, a, d),
+                Question::EqualRows => rebatelion_equal_rows(chart, chart_len, rows, a),
+                Question::EqualPairs => rebatelion_equal_pairs(chart, chart_len, a),
             }
         }
     }

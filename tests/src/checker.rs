@@ -1,6 +1,6 @@
 //! Calls of the archive, each beside the reference (src/outcome.rs).
 
-use crate::archive::{halves, Archive, Call, Question, Room, AROUND, MARGIN};
+use crate::archive::{halves, Archive, Call, Question, Room, Rows, AROUND, MARGIN};
 use crate::faults::{self, Fault};
 use crate::inputs::random::Random;
 use crate::lines;
@@ -46,6 +46,7 @@ pub type Refused = (u64, u64, u64, u64);
 pub struct Told {
     pub code: u64,
     pub numbers: [u64; 6],
+    pub rows: Rows,
     /// The lent part of the buffer, after the call.
     pub buffer: Vec<u8>,
 }
@@ -105,12 +106,36 @@ impl<'a> Checker<'a> {
         self.ask(Question::BothSolutions, chart.into(), sheet.into(), 0, 0)
     }
 
-    /// The five questions about one chart and a sheet, with buffers of lengths near those that are needed.
-    pub fn all<'b, 'c>(&mut self, chart: impl Into<Lent<'b>>, sheet: impl Into<Lent<'c>>) -> [Told; 5] {
+    pub fn equal_rows<'b>(&mut self, chart: impl Into<Lent<'b>>) -> Told {
+        let before = self.before(Question::EqualRows, chart.into(), 0);
+        self.ask_with(before)
+    }
+
+    pub fn equal_pairs<'b>(&mut self, chart: impl Into<Lent<'b>>) -> Told {
+        let before = self.before(Question::EqualPairs, chart.into(), 0);
+        self.ask_with(before)
+    }
+
+    /// The seven questions about one chart and a sheet, with buffers of lengths near those that are needed.
+    pub fn all<'b, 'c>(&mut self, chart: impl Into<Lent<'b>>, sheet: impl Into<Lent<'c>>) -> [Told; 7] {
+        let chart = chart.into();
+        let [marks, simulation, rows, pairs] = self.relations(chart);
+        let [property, short_form, both_solutions] = self.sheets(chart, sheet);
+        [marks, simulation, rows, pairs, property, short_form, both_solutions]
+    }
+
+    /// The four questions about a chart alone.
+    pub fn relations<'b>(&mut self, chart: impl Into<Lent<'b>>) -> [Told; 4] {
         let chart = chart.into();
         let [marks, simulation] = self.matrices(chart);
-        let [property, short_form, both_solutions] = self.sheets(chart, sheet);
-        [marks, simulation, property, short_form, both_solutions]
+        let [rows, pairs] = self.equal(chart);
+        [marks, simulation, rows, pairs]
+    }
+
+    /// Which states are equal: the rows, and the number of pairs.
+    pub fn equal<'b>(&mut self, chart: impl Into<Lent<'b>>) -> [Told; 2] {
+        let chart = chart.into();
+        [self.equal_rows(chart), self.equal_pairs(chart)]
     }
 
     /// Marks and simulation, each with a buffer that is just long enough, or one less, or more, or any.
@@ -224,9 +249,10 @@ impl<'a> Checker<'a> {
         buffer.null = buffer.len() == 0 && self.random.once_in(2);
         let chart = self.room(chart);
         let numbers = [0; 6].map(|_| self.random.word());
-        let around = [[0; AROUND]; 3].map(|words| words.map(|_| self.random.word()));
+        let rows = [0; 64].map(|_| self.random.word());
+        let around = [[0; AROUND]; 4].map(|words| words.map(|_| self.random.word()));
         let [sheet, second, list] = [0; 3].map(Room::of);
-        Call { question, name: 0, chart, sheet, second, list, buffer, numbers, around }
+        Call { question, name: 0, chart, sheet, second, list, buffer, numbers, rows, around }
     }
 
     fn ask(&mut self, question: Question, chart: Lent, sheet: Lent, name: u64, buffer: usize) -> Told {
@@ -246,7 +272,7 @@ impl<'a> Checker<'a> {
                 faults::try_all(&mut self.tally, self.job, &told, |altered| difference(&before, &expected, altered).is_some())
             }
         }
-        Told { code: told.code, numbers: told.left.numbers, buffer: told.left.buffer.part().to_vec() }
+        Told { code: told.code, numbers: told.left.numbers, rows: told.left.rows, buffer: told.left.buffer.part().to_vec() }
     }
 
     fn call(&mut self, before: &Call) -> Outcome {

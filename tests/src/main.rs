@@ -18,6 +18,7 @@ mod outcome;
 mod parts;
 mod reach;
 mod reference;
+mod rows;
 mod spelled;
 mod steps;
 mod table;

@@ -1,11 +1,12 @@
 //! What comes of one call, and the one place where it is held against the reference: the code returned, every lent number, every
 //! word around the numbers and every byte must agree.
 
-use crate::archive::{halves, Call, Question, MARGIN};
+use crate::archive::{halves, Call, Question, Rows, MARGIN};
 use crate::counts::{codes_together, Counts};
+use crate::reference::nearness::Relation;
 use crate::reference::property::Satisfying;
 use crate::reference::refusal::Refusal;
-use crate::reference::{both_solutions, check_reasons, compare, nearness, property, reasons, short_form};
+use crate::reference::{both_solutions, check_reasons, compare, equal, nearness, property, reasons, short_form};
 use std::ops::Range;
 
 /// The code that a call returned, and all that was lent to it as it is afterwards.
@@ -121,13 +122,28 @@ impl Outcome {
         self.left.numbers[0] ^ self.left.numbers[3]
     }
 
-    /// The rounds of an answer, of both solutions those of the least; a short form has none, and neither have reasons.
+    /// Of equal rows: the classes, each counted at its lowest state.
+    pub fn classes(&self) -> usize {
+        (0..self.states()).filter(|&p| self.left.rows[p].trailing_zeros() as usize == p).count()
+    }
+
+    /// Of equal rows: the two states that are equal, where they are the only ones.
+    pub fn only_pair(&self) -> Option<(usize, usize)> {
+        let mut several = (0..self.states()).filter(|&p| self.left.rows[p].count_ones() > 1);
+        match (several.next(), several.next(), several.next()) {
+            (Some(p), Some(q), None) => Some((p, q)),
+            _ => None,
+        }
+    }
+
+    /// The rounds of an answer, of both solutions those of the least; where the question does not tell them, 0.
     pub fn rounds(&self) -> u64 {
         match self.left.question {
             Question::Marks | Question::Simulation => self.left.numbers[1],
             Question::Property | Question::BothSolutions => self.left.numbers[2],
             Question::ShortForm | Question::Reasons | Question::CheckReasons => 0,
             Question::Compare => self.left.numbers[1],
+            Question::EqualRows | Question::EqualPairs => 0,
         }
     }
 
@@ -136,6 +152,7 @@ impl Outcome {
         match self.left.question {
             Question::Marks | Question::Simulation => self.states().pow(2),
             Question::Property | Question::CheckReasons | Question::BothSolutions => 0,
+            Question::EqualRows | Question::EqualPairs => 0,
             Question::ShortForm | Question::Compare | Question::Reasons => self.left.numbers[0] as usize,
         }
     }
@@ -166,10 +183,15 @@ fn three(solution: Satisfying) -> [u64; 3] {
     [solution.word, solution.count, solution.rounds]
 }
 
+/// A relation as 64 words, those from n on 0.
+fn words(relation: &Relation) -> Rows {
+    std::array::from_fn(|p| relation.get(p).map_or(0, property::word))
+}
+
 pub fn expected(before: &Call) -> Expected {
     let mut left = before.clone();
     let (chart, sheet, second) = (before.chart.part(), before.sheet.part(), before.second.part());
-    let (numbers, buffer) = (&mut left.numbers, left.buffer.part_mut());
+    let (numbers, rows, buffer) = (&mut left.numbers, &mut left.rows, left.buffer.part_mut());
     let answer = match before.question {
         Question::Marks => nearness::marks(chart, buffer).map(|m| numbers[..2].copy_from_slice(&[m.states, m.rounds])),
         Question::Simulation => {
@@ -186,6 +208,11 @@ pub fn expected(before: &Call) -> Expected {
             numbers[..3].copy_from_slice(&three(both.least));
             numbers[3..].copy_from_slice(&three(both.greatest));
         }),
+        Question::EqualRows => equal::equal_rows(chart).map(|equal| {
+            *rows = words(&equal);
+            numbers[0] = equal.len() as u64;
+        }),
+        Question::EqualPairs => equal::equal_pairs(chart).map(|pairs| numbers[0] = pairs),
     };
     let refused = answer.err();
     Expected { refused, outcome: Outcome { code: refused.map_or(0, |r| r.packed()), left } }
@@ -221,6 +248,9 @@ fn describe(before: &Call, expected: &Expected, told: &Outcome) -> String {
     }
     if is.numbers != was.numbers {
         out += &format!("\n  numbers   lent {:?}, expected {:?}, left {:?}", before.numbers, was.numbers, is.numbers);
+    }
+    if let Some(p) = (0..64).find(|&p| is.rows[p] != was.rows[p]) {
+        out += &format!("\n  row {p}   lent {:x}, expected {:x}, left {:x}", before.rows[p], was.rows[p], is.rows[p]);
     }
     if is.around != was.around {
         out += &format!("\n  around the numbers   lent {:?}, left {:?}", was.around, is.around);

@@ -1,19 +1,23 @@
 //! What must be reached in a run, beside the refusals of src/table.rs: every number of rounds where charts and formulas are as
 //! large as can be, every answer's size and every division of the limits between two charts, and buffers too long by thousands
-//! of bytes; of solutions every word of the steps and every operand that changes, of both solutions of a sheet every number of
-//! rounds that the two can have together and of states in which they differ, of sheets the lengths and what remains of them; of
-//! lists of reasons every length and depth, every line that can be bad or incomplete, and of their lines every answer
-//! that can decide and every choice among moves; and of faulty triples, for each question, every number and byte that they can
-//! have in small charts and in the longest.
+//! of bytes; of relations and of solutions every word of the steps, and of these every operand that changes, of both solutions of a
+//! sheet every number of rounds that the two can have together and of states in which they differ, of sheets the lengths and what
+//! remains of them; of equal states every number of classes, and every two as the only ones; of lists of reasons every length and
+//! depth, every line that can be bad or incomplete, and of their lines every answer that can decide and every choice among moves;
+//! and of faulty triples, for each question, every number and byte that they can have in small charts and in the longest.
 
-use crate::archive::Question::{self, BothSolutions, CheckReasons, Compare, Marks, Property, Reasons, ShortForm, Simulation};
+use crate::archive::Question::{
+    self, BothSolutions, CheckReasons, Compare, EqualPairs, EqualRows, Marks, Property, Reasons, ShortForm, Simulation,
+};
 use crate::counts::{byte as byte_of, Counts};
 use crate::outcome::Outcome;
 use std::ops::RangeInclusive;
 
 mod both;
+mod equal;
 mod moves;
 mod reasons;
+pub mod relations;
 pub mod sheets;
 pub mod steps;
 
@@ -93,10 +97,15 @@ const EVERY_QUESTION: &[Option<Asked>] = &[
     Some((Reasons, 0)),
     Some((CheckReasons, 0)),
     Some((BothSolutions, 0)),
+    Some((EqualRows, 0)),
+    Some((EqualPairs, 0)),
 ];
 
 /// The questions that solve a sheet, once or twice.
 const SOLVING: &[Option<Asked>] = &[Some((Property, 0)), Some((BothSolutions, 0))];
+
+/// The questions about a relation of states.
+const RELATIONS: &[Option<Asked>] = &[Some((Marks, 0)), Some((Simulation, 0)), Some((EqualRows, 0)), Some((EqualPairs, 0))];
 
 /// So many states, actions and triples a small chart has at the most.
 const SMALL: usize = 4;
@@ -214,8 +223,11 @@ pub fn by(outcome: &Outcome) -> impl Iterator<Item = Value> + '_ {
     let (of_steps, of_sheets) = if steps::solved(outcome) { (steps::ROWS, sheets::ROWS) } else { (&[] as _, &[] as _) };
     let of_both = if outcome.answers(BothSolutions) { both::ROWS } else { &[] };
     let of_reasons = if [Reasons, CheckReasons].contains(&asked.0) { reasons::ROWS } else { &[] };
-    let of_one = ROWS.iter().chain(of_both).chain(of_reasons).map(|row| (row, None));
-    let of_several = of_a_chart.iter().chain(of_a_sheet).chain(of_steps).chain(of_sheets).map(move |row| (row, Some(asked)));
+    let of_equal = if outcome.code == 0 && [EqualRows, EqualPairs].contains(&asked.0) { equal::ROWS } else { &[] };
+    let of_one = ROWS.iter().chain(of_both).chain(of_reasons).chain(of_equal).map(|row| (row, None));
+    let of_relations = if relations::answered(outcome) { relations::ROWS } else { &[] };
+    let of_several = of_a_chart.iter().chain(of_a_sheet).chain(of_steps).chain(of_sheets).chain(of_relations);
+    let of_several = of_several.map(move |row| (row, Some(asked)));
     let of_rows = of_one.chain(of_several);
     let of_moves = moves::by(outcome).into_iter().map(|(what, value)| (what, None, value));
     let of_changes = steps::by(outcome).into_iter().map(move |(what, value)| (what, Some(asked), value));
@@ -235,11 +247,12 @@ pub fn must() -> impl Iterator<Item = Value> {
 /// What is counted, of which questions, and how far it must go.
 pub fn rows() -> impl Iterator<Item = (&'static str, &'static [Option<Asked>], RangeInclusive<u64>)> {
     let of = |rows: &'static [Row]| rows.iter().map(|(what, _, range)| (*what, range.clone()));
-    let of_one = of(ROWS).chain(of(both::ROWS)).chain(of(reasons::ROWS)).chain(moves::rows());
+    let of_one = of(ROWS).chain(of(both::ROWS)).chain(of(equal::ROWS)).chain(of(reasons::ROWS)).chain(moves::rows());
     let of_solutions = of(steps::ROWS).chain(of(sheets::ROWS)).chain(steps::of_changes());
     let of_one = of_one.map(|(what, range)| (what, [None].as_slice(), range));
     let of_solutions = of_solutions.map(|(what, range)| (what, SOLVING, range));
     let of_a_sheet = of(sheets::REFUSED).map(|(what, range)| (what, sheets::EVERY_QUESTION, range));
     let of_a_chart = of(OF_A_CHART).map(|(what, range)| (what, EVERY_QUESTION, range));
-    of_one.chain(of_solutions).chain(of_a_sheet).chain(of_a_chart)
+    let of_relations = of(relations::ROWS).map(|(what, range)| (what, RELATIONS, range));
+    of_one.chain(of_solutions).chain(of_a_sheet).chain(of_a_chart).chain(of_relations)
 }

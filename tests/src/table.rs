@@ -108,16 +108,25 @@ fn can_occur(question: Question) -> Vec<(Input, &'static Row)> {
         Question::ShortForm => lists.extend(of_the_sheet.into_iter().chain(of_a_short_form)),
         Question::Compare => lists.extend(of_two_charts),
         Question::CheckReasons => lists.push((Input::Sheet, OF_THE_LIST)),
+        // nothing is lent that could be too short
+        Question::EqualRows | Question::EqualPairs => {}
     }
     lists.into_iter().flat_map(|(input, rows)| rows.iter().map(move |row| (input, row))).collect()
+}
+
+/// As it heads a column: what its name says, in words.
+fn name(question: Question) -> String {
+    let name = format!("{question:?}");
+    let words = name.chars().map(|c| if c.is_uppercase() { format!(" {}", c.to_lowercase()) } else { c.to_string() });
+    words.collect::<String>().trim_start().to_string()
 }
 
 /// A count for each question.
 type Counts = [u64; QUESTIONS.len()];
 
 /// A cell for each question, as wide as its name.
-fn line(title: &str, [a, b, c, d, e, f, g, h]: [String; QUESTIONS.len()]) {
-    println!("{title:<52}{a:>10}{b:>12}{c:>10}{d:>12}{e:>9}{f:>9}{g:>15}{h:>16}");
+fn line(title: &str, [a, b, c, d, e, f, g, h, i, j]: [String; QUESTIONS.len()]) {
+    println!("{title:<52}{a:>10}{b:>12}{c:>10}{d:>12}{e:>9}{f:>9}{g:>15}{h:>16}{i:>12}{j:>13}");
 }
 
 fn row(title: &str, counts: Counts) {
@@ -138,8 +147,7 @@ fn different_inputs(tally: &Tally, question: Question) -> usize {
 
 /// Prints the counts.
 pub fn show(tally: &Tally) {
-    let names = ["marks", "simulation", "property", "short form", "compare", "reasons", "check reasons", "both solutions"];
-    line("", names.map(String::from));
+    line("", QUESTIONS.map(name));
     row("asked", QUESTIONS.map(|q| tally.asked.get(&q).copied().unwrap_or(0)));
     row("different inputs", QUESTIONS.map(|q| different_inputs(tally, q) as u64));
     row("answered", QUESTIONS.map(|q| tally.answered.get(&q).copied().unwrap_or(0)));

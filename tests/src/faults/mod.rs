@@ -6,6 +6,7 @@
 mod both;
 mod check_reasons;
 mod comparisons;
+mod equal;
 mod lines;
 mod matrices;
 mod reader;
@@ -33,7 +34,8 @@ pub fn all() -> impl Iterator<Item = &'static Fault> {
     let of_steps = [steps::OF_THE_TABLE, steps::OF_THE_MEMORY, steps::OF_SIZES, reader::FAULTS];
     let of_more = [comparisons::FAULTS, reasons::FAULTS, check_reasons::FAULTS];
     let of_both = [both::OF_THE_HALVES, both::OF_THE_ARRAYS, both::OF_REFUSALS, both::OF_THE_TABLE, both::OF_SIZES];
-    of_one_chart.into_iter().chain(of_steps).chain(of_more).chain(of_both).flatten()
+    let of_equal = [equal::OF_ROWS, equal::OF_PAIRS, equal::OF_REFUSALS, equal::OF_SIZES, equal::OF_WORDS];
+    of_one_chart.into_iter().chain(of_steps).chain(of_more).chain(of_both).chain(of_equal).flatten()
 }
 
 pub fn named(name: &str) -> &'static Fault {

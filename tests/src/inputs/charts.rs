@@ -73,9 +73,22 @@ pub fn two_rings(r: &mut Random, a: usize, b: usize) -> Chart {
 /// top layer. So states of one layer are equal, states of two have a mark one above the lower layer's number, and marks and
 /// simulation take k rounds.
 pub fn layers(r: &mut Random, n: usize, k: usize, closed: bool, common: usize) -> Chart {
+    let layer = classes(r, n, k + 1);
+    layered(r, &layer, closed, common)
+}
+
+/// For each of n states one of so many classes, each of which has a state.
+pub fn classes(r: &mut Random, n: usize, count: usize) -> Vec<usize> {
+    let mut class: Vec<usize> = (0..n).map(|i| if i < count { i } else { r.below(count) }).collect();
+    r.shuffle(&mut class);
+    class
+}
+
+/// Such layers, where that of each state is known.
+pub fn layered(r: &mut Random, layer: &[usize], closed: bool, common: usize) -> Chart {
+    let n = layer.len();
+    let k = *layer.iter().max().expect("a state");
     let m = if common == 0 { 2 } else { 32 };
-    let mut layer: Vec<usize> = (0..n).map(|i| if i <= k { i } else { r.below(k + 1) }).collect();
-    r.shuffle(&mut layer);
     let members = |l: usize| (0..n).filter(|&s| layer[s] == l).collect::<Vec<_>>();
     let mut steps = Vec::new();
     for (s, &l) in layer.iter().enumerate() {
@@ -92,6 +105,19 @@ pub fn layers(r: &mut Random, n: usize, k: usize, closed: bool, common: usize) -
     }
     steps.extend(shared.into_iter().flat_map(|(a, t)| (0..n).map(move |s| (s, a, t))));
     chart(r, n, m, steps)
+}
+
+/// A state for each of these numbers, which are below 64. By each action, of 6, whose bit is set in its number it steps to a state of the
+/// same number. So two states are equal where their numbers are, and else have the mark 1.
+pub fn numbered(r: &mut Random, numbers: &[usize]) -> Chart {
+    let alike = |number: usize| (0..numbers.len()).filter(|&s| numbers[s] == number).collect::<Vec<_>>();
+    let mut steps = Vec::new();
+    for (s, &number) in numbers.iter().enumerate() {
+        for a in (0..6).filter(|a| number >> a & 1 == 1) {
+            steps.push((s, a, r.any_of(&alike(number))));
+        }
+    }
+    chart(r, numbers.len(), 6, steps)
 }
 
 /// The longest chart of such layers: a step of its own and 15 common ones for each of 64 states, 3,172 bytes.
@@ -163,6 +189,23 @@ pub fn turning(r: &mut Random, few: usize) -> Turning {
         steps.insert((r.below(64), r.any_of(others), r.below(64)));
     }
     Turning { chart: chart(r, 64, 32, steps), turns: turns.iter().map(|&a| a as u8).collect(), part: actions[15] as u8 }
+}
+
+/// 64 states, of which `state` alone steps to itself, by an action of its own; two others step by `action` to one that rests, and the first
+/// of them to `state` too. These two are told apart in the second round, by the steps into `state` alone.
+pub struct Deciding {
+    pub chart: Chart,
+    pub first: usize,
+    pub second: usize,
+}
+
+pub fn deciding(r: &mut Random, state: usize, action: usize) -> Deciding {
+    let mut others: Vec<usize> = (0..64).filter(|&s| s != state).collect();
+    r.shuffle(&mut others);
+    let (first, second, rests) = (others[0], others[1], others[2]);
+    let own = (action + r.within(1, 31)) % 32;
+    let steps = [(state, own, state), (first, action, state), (first, action, rests), (second, action, rests)];
+    Deciding { chart: chart(r, 64, 32, steps), first, second }
 }
 
 /// At most one step for each state and action.

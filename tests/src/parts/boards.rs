@@ -1,4 +1,4 @@
-//! The boards and edges of document 01, with its values, and both solutions of their sheets, by document 02.
+//! The boards and edges of document 01, with its values, and by document 02 both solutions of their sheets and which states are equal.
 
 use crate::checker::{Checker, Told};
 use crate::inputs::charts::counted;
@@ -44,6 +44,32 @@ fn expect_both(c: &mut Checker, what: &str, chart: &[u8], sheet: &[u8], least: [
         let fine = told.code == 0 && told.halves() == [least, greatest];
         c.expect(fine, || format!("both of {what}, kind {kind}: code {} numbers {:?}", told.code, told.numbers));
     }
+}
+
+/// These are the rows of equal states, one for each state, and those after them are 0; and so many pairs are equal.
+fn expect_equal(c: &mut Checker, what: &str, chart: &[u8], rows: &[u64], count: u64) {
+    let [told, pairs] = c.equal(chart);
+    let (of_states, after) = told.rows.split_at(rows.len());
+    let fine = told.code == 0 && told.numbers[0] == rows.len() as u64 && of_states == rows && after.iter().all(|&row| row == 0);
+    c.expect(fine, || format!("{what}: code {} states {} rows {:x?}", told.code, told.numbers[0], told.rows));
+    let fine = pairs.code == 0 && pairs.numbers[0] == count;
+    c.expect(fine, || format!("{what}: code {} pairs {}", pairs.code, pairs.numbers[0]));
+}
+
+/// No two states of E or L are equal. Of two chains of two, and a state that loops, 0 and 2 are, and 1 and 3, which rest. Without steps
+/// all states are; and where each of 64 steps to the next, none are.
+fn equal(c: &mut Checker) {
+    expect_equal(c, "equal states of E", &E, &[1, 2, 4, 8, 16, 32], 6);
+    expect_equal(c, "equal states of L", &L, &[1, 2, 4], 3);
+    let chains = [5, 1, 2, 3, 4, 5, 1, 10, 3, 0, 0, 0, 1, 2, 0, 3, 4, 0, 4];
+    expect_equal(c, "two chains and a loop", &chains, &[0b00101, 0b01010, 0b00101, 0b01010, 0b10000], 9);
+    expect_equal(c, "one state", &[1, 0, 0, 0, 0], &[1], 1);
+    expect_equal(c, "two states without steps", &counted(2, 0, 0), &[3, 3], 4);
+    expect_equal(c, "63 states without steps", &counted(63, 0, 0), &[u64::MAX >> 1; 63], 63 * 63);
+    expect_equal(c, "64 states without steps", &counted(64, 0, 0), &[u64::MAX; 64], 64 * 64);
+    let steps: Vec<u8> = (0..63).flat_map(|s| [s, 0, s + 1]).collect();
+    let chain = [&counted(64, 1, 0)[..67], &[63, 0], &steps].concat();
+    expect_equal(c, "a chain of 64", &chain, &std::array::from_fn::<u64, 64, _>(|p| 1 << p), 64);
 }
 
 fn board_e(c: &mut Checker) {
@@ -239,6 +265,7 @@ pub fn jobs() -> Vec<Job> {
             board_e(c);
             board_l(c);
             both_of_few_nodes(c);
+            equal(c);
             edges(c);
             short_forms(c);
             written(c);

@@ -112,7 +112,7 @@ fn several(c: &mut Checker, times: usize) {
         for _ in 0..c.random.below(3) {
             chart = damage::any(&mut c.random, &chart, &counts);
         }
-        c.matrices(&chart);
+        c.relations(&chart);
         let mut sheet = good_sheet;
         for _ in 0..c.random.below(3) {
             sheet = damage::any(&mut c.random, &sheet, &damage::sheet_counts());

@@ -1,6 +1,7 @@
 //! The archive's answers beside the definitions themselves, on charts so small that everything can be tried: all formulas by
 //! depth, all relations, all sets.
 
+use super::equal;
 use crate::checker::Checker;
 use crate::inputs::{charts, sheets};
 use crate::reference::chart::{Chart, Step};
@@ -100,6 +101,7 @@ fn marks_are_depths(c: &mut Checker, chart: &Chart) {
     c.expect(told.numbers[1] == rounds && rounds < n as u64, || {
         format!("{chart:?}\n  rounds {}, greatest mark {rounds}", told.numbers[1])
     });
+    equal::are(c, chart, |p, q| depths[p * n + q] == 0);
     // equal states simulate each other
     let simulation = c.simulation(&chart.bytes(), n * n).buffer;
     let fine = (0..n * n).all(|i| depths[i] != 0 || simulation[i] == 1);
@@ -108,7 +110,8 @@ fn marks_are_depths(c: &mut Checker, chart: &Chart) {
 
 // ---- relations
 
-/// Zero marks are the union of all strong bisimulations; the simulation is the union of all simulations.
+/// Zero marks are the union of all strong bisimulations, and so are the rows of equal states; the simulation is the union of all
+/// simulations.
 fn unions_of_relations(c: &mut Checker, chart: &Chart) {
     let n = chart.states();
     let steps = chart.steps_by_source();
@@ -128,6 +131,7 @@ fn unions_of_relations(c: &mut Checker, chart: &Chart) {
     c.expect(cells(&|i| told.buffer[i] == 0) == bisimilar, || {
         format!("{chart:?}\n  marks {:?}, bisimilar {bisimilar:b}", told.buffer)
     });
+    equal::are(c, chart, |p, q| bisimilar >> (p * n + q) & 1 == 1);
     let told = c.simulation(&chart.bytes(), n * n);
     c.expect(cells(&|i| told.buffer[i] == 1) == simulated, || {
         format!("{chart:?}\n  {:?}, simulated {simulated:b}", told.buffer)

@@ -5,6 +5,7 @@ pub mod both;
 pub mod comparison;
 pub mod damaged;
 pub mod definitions;
+pub mod equal;
 pub mod forms;
 pub mod lines;
 pub mod order;
@@ -47,6 +48,7 @@ pub fn jobs() -> Vec<Job> {
         comparison::jobs(),
         reasons::jobs(),
         both::jobs(),
+        equal::jobs(),
         valid::jobs(),
         small::jobs(),
         definitions::jobs(),

@@ -125,6 +125,8 @@ fn charts(c: &mut Checker) {
                 let told = c.compare(&GOOD, &chart, buffer);
                 c.expect_refused(what, &told, (3, number, place, byte));
             }
+            let told = c.equal(&chart);
+            told.iter().for_each(|told| c.expect_refused(what, told, (0, number, place, byte)));
             // a sheet that is absent, bad at once, or good
             for sheet in [[].as_slice(), &[0], &[1, 3, 0], &[1, 2, 1, 7], &[1, 0, 1, 1], &[255; 300]] {
                 let told = [c.property(&chart, sheet), c.both_solutions(&chart, sheet)];

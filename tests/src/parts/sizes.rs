@@ -10,7 +10,7 @@ use crate::reference::chart::Chart;
 use crate::reference::short_form::added;
 use crate::Job;
 
-/// All five questions about a chart and a sheet must be answered, in buffers that are just long enough or longer, and those with a
+/// All seven questions about a chart and a sheet must be answered, in buffers that are just long enough or longer, and those with a
 /// buffer refused in one that is a byte shorter.
 fn answered(c: &mut Checker, chart: &Chart, nodes: usize) {
     let (bytes, cells, m) = (chart.bytes(), chart.states().pow(2), chart.actions());
@@ -25,6 +25,8 @@ fn answered(c: &mut Checker, chart: &Chart, nodes: usize) {
         c.property(&bytes, &sheet),
         c.short_form(&bytes, &f, name, written + more),
         c.both_solutions(&bytes, &sheet),
+        c.equal_rows(&bytes),
+        c.equal_pairs(&bytes),
     ];
     told.iter().for_each(|told| c.expect_answered("a good input", told));
     let told = [c.marks(&bytes, cells - 1), c.simulation(&bytes, cells - 1), c.short_form(&bytes, &f, name, written - 1)];
@@ -92,7 +94,7 @@ fn rounds(c: &mut Checker, n: usize) {
     let made = [charts::chain(r, n), charts::ring(r, n), charts::two_rings(r, n / 2, n - n / 2)];
     for (i, chart) in made.iter().enumerate() {
         let bytes = chart.bytes();
-        c.matrices(&bytes);
+        c.relations(&bytes);
         // at rest, or some step to X: along a chain it takes every state a round, and from all states none is lost
         let sheet = [1, 1, 5, 4, 6, 255, 2, 5, 255, 0];
         let told = c.property(&bytes, &sheet);

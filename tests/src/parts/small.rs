@@ -23,7 +23,7 @@ fn charts(c: &mut Checker, n: u8) {
         strings(&[0, 1, 2], length, |rest| {
             let mut chart = vec![n, 5];
             chart.extend(rest);
-            c.matrices(&chart);
+            c.relations(&chart);
             c.beside(&chart, &L);
             c.why(&chart, &[0, 1, 0, 0, 0]);
         });

@@ -9,7 +9,7 @@ fn drawn(c: &mut Checker, times: usize, states: usize, nodes: usize) {
         let chart = charts::any(&mut c.random, states);
         let sheet = sheets::any(&mut c.random, nodes, chart.actions());
         let bytes = chart.bytes();
-        c.matrices(&bytes);
+        c.relations(&bytes);
         c.sheets(&bytes, &sheet);
     }
 }
