@@ -44,6 +44,8 @@ mod raw {
             least: &mut [u64; 3],
             greatest: &mut [u64; 3],
         ) -> u64;
+        pub fn rebatelion_equal_rows(c: *const u8, cn: usize, rows: &mut [u64; 64], states: &mut u64) -> u64;
+        pub fn rebatelion_equal_pairs(c: *const u8, cn: usize, pairs: &mut u64) -> u64;
     }
 }
 
@@ -110,4 +112,18 @@ pub fn both_solutions(chart: &[u8], sheet: &[u8]) -> Option<[(u64, u64, u64); 2]
     // SAFETY: slices of these lengths, and arrays of three
     let code = unsafe { raw::rebatelion_both_solutions(c, chart.len(), s, sheet.len(), &mut least, &mut greatest) };
     (code == 0).then_some([least, greatest].map(|[word, count, rounds]| (word, count, rounds)))
+}
+
+pub fn equal_rows(chart: &[u8]) -> Option<([u64; 64], u64)> {
+    let (mut rows, mut states) = ([0; 64], 0);
+    // SAFETY: a slice of this length, and an array of 64
+    let code = unsafe { raw::rebatelion_equal_rows(chart.as_ptr(), chart.len(), &mut rows, &mut states) };
+    (code == 0).then_some((rows, states))
+}
+
+pub fn equal_pairs(chart: &[u8]) -> Option<u64> {
+    let mut pairs = 0;
+    // SAFETY: a slice of this length
+    let code = unsafe { raw::rebatelion_equal_pairs(chart.as_ptr(), chart.len(), &mut pairs) };
+    (code == 0).then_some(pairs)
 }

@@ -1,11 +1,16 @@
 //! Times the archive's calls beside Rust of the same shape and beside the fastest Rust that we know, in one run, and properties also
 //! beside Rust without a table of the steps. Each time is the least processor time of several samples, taken in turn; the buffers
 //! are not cleared between calls. Ends with a line for each ratio above what is asked, and with status 1 where there is one.
+//!
+//!     bench            all of that
+//!     bench --growth   also how marks and simulation grow with the states, with the triples and with the rounds
 
 mod archive;
 mod both;
 mod cases;
 mod compare;
+mod equal;
+mod growth;
 mod passes;
 mod read;
 mod reasons;
@@ -75,7 +80,7 @@ fn row(above: &mut Vec<String>, asked: &Asked, case: &str, rounds: &str, [archiv
     let us = 1e6;
     let question = asked.question;
     println!(
-        "| {question:<10} | {case:<49} | {rounds:>6} | {:>10.2} | {:>10.2} | {:>8.2} | {:>12.2} | {:>13.2} |",
+        "| {question:<11} | {case:<49} | {rounds:>6} | {:>10.2} | {:>10.2} | {:>8.2} | {:>12.2} | {:>13.2} |",
         archive * us,
         same * us,
         words * us,
@@ -168,18 +173,41 @@ fn charts() -> [(&'static str, Vec<u8>); 7] {
         ("64 states, 4 actions, 1,008 triples, nearly alike", cases::nearly_alike()),
         ("chain of 64", cases::chain(64)),
         ("ring of 64", cases::ring(64)),
-        ("rings of 31 and 33", cases::two_rings(31, 33)),
+        (RINGS, cases::two_rings(31, 33)),
     ]
 }
+
+const RINGS: &str = "rings of 31 and 33";
 
 /// Marks and simulation of each chart.
 fn matrices(above: &mut Vec<String>) {
     let charts = charts();
-    for (asked, calls) in [(cases::MARKS, MARKS), (cases::SIMULATION, SIMULATION)] {
-        for (case, chart) in &charts {
-            let (rounds, times) = of_chart(chart, 4096, calls);
-            row(above, &asked, case, &rounds.to_string(), times);
-        }
+    for (case, chart) in &charts {
+        let (rounds, times) = of_chart(chart, 4096, MARKS);
+        row(above, &cases::MARKS, case, &rounds.to_string(), times);
+    }
+    for (case, chart) in &charts {
+        let (rounds, times) = of_chart(chart, 4096, SIMULATION);
+        let asked = if *case == RINGS { cases::SIMULATION_OF_RINGS } else { cases::SIMULATION };
+        row(above, &asked, case, &rounds.to_string(), times);
+    }
+}
+
+/// The times of a question that needs no buffer.
+fn without_buffer<A: PartialEq + Copy>(chart: &[u8], calls: [fn(&[u8]) -> Option<A>; 3]) -> [f64; 3] {
+    timed(0, calls.map(|call| move |_: &mut [u8]| call(black_box(chart)))).1
+}
+
+/// Equal rows and equal pairs of each chart.
+fn equal(above: &mut Vec<String>) {
+    let charts = charts();
+    for (case, chart) in &charts {
+        let times = without_buffer(chart, [archive::equal_rows, same_shape::equal_rows, equal::rows]);
+        row(above, &cases::EQUAL_ROWS, case, &rounds(chart), times);
+    }
+    for (case, chart) in &charts {
+        let times = without_buffer(chart, [archive::equal_pairs, same_shape::equal_pairs, equal::pairs]);
+        row(above, &cases::EQUAL_PAIRS, case, &rounds(chart), times);
     }
 }
 
@@ -271,9 +299,10 @@ fn beside_rust() -> Vec<String> {
     let mut above = Vec::new();
     println!("Times in microseconds, the least of {SAMPLES} samples.\n");
     let (question, case) = ("question", "case");
-    println!("| {question:<10} | {case:<49} | rounds |    archive | same shape |    words | archive/same | archive/words |");
+    println!("| {question:<11} | {case:<49} | rounds |    archive | same shape |    words | archive/same | archive/words |");
     println!("|---|---|---|---|---|---|---|---|");
     matrices(&mut above);
+    equal(&mut above);
     sheets(&mut above);
     pairs(&mut above);
     lists(&mut above);
@@ -295,33 +324,19 @@ fn beside_passes(above: &mut Vec<String>) {
     }
 }
 
-fn growth() {
-    println!(
-        "\nHow the archive's time grows, in microseconds: n states, 2 actions, t triples, drawn; a property of 200 nodes.\n"
-    );
-    println!("|   n |     t |      marks | simulation |   property |");
-    println!("|---|---|---|---|---|");
-    let sheet = cases::drawn_sheet(2);
-    for (n, t) in [(8, 32), (16, 64), (32, 128), (64, 256), (64, 0), (64, 64), (64, 128), (64, 512), (64, 1024)] {
-        let chart = cases::drawn(n, 2, t);
-        let mut buffer = [0; 4096];
-        let [marks] = time([&mut || {
-            black_box(archive::marks(black_box(&chart), &mut buffer));
-        }]);
-        let [simulation] = time([&mut || {
-            black_box(archive::simulation(black_box(&chart), &mut buffer));
-        }]);
-        let [property] = time([&mut || {
-            black_box(archive::property(black_box(&chart), black_box(&sheet)));
-        }]);
-        println!("| {n:>3} | {t:>5} | {:>10.2} | {:>10.2} | {:>10.2} |", marks * 1e6, simulation * 1e6, property * 1e6);
-    }
-}
-
 fn main() -> ExitCode {
+    let arguments: Vec<String> = std::env::args().skip(1).collect();
+    let with_growth = match arguments.iter().map(String::as_str).collect::<Vec<_>>()[..] {
+        [] => false,
+        ["--growth"] => true,
+        _ => panic!("bench [--growth]"),
+    };
     let mut above = beside_rust();
     beside_passes(&mut above);
-    growth();
+    growth::drawn();
+    if with_growth {
+        growth::by_states_triples_and_rounds();
+    }
     println!();
     for line in &above {
         println!("{line}");

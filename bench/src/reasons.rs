@@ -30,14 +30,15 @@ fn first_move(of_p: Triples, of_q: Triples, cells: &[u8], n: usize, own: u8) -> 
     }
 }
 
-/// The length written. The marks as a byte matrix; then the cells of each mark linked in one pass downwards, and gone through in
-/// order, the first move that fits searched in the steps of p and then of q.
+/// The length written. The marks, by words, as a byte matrix; then the cells of each mark linked in one pass downwards, and gone
+/// through in order, the first move that fits searched in the steps of p and then of q.
 #[inline(never)]
 pub fn same_shape(chart: &[u8], buffer: &mut [u8]) -> Option<u64> {
     let shape = read::chart(chart)?;
-    let (n, of) = (shape.n, sources(triples(chart, shape), shape.n));
+    let (n, steps) = (shape.n, triples(chart, shape));
+    let of = sources(steps, n);
     let mut cells = [0; 4096];
-    let rounds = marks_of(&of[..n], &mut cells[..n * n]) as usize;
+    let (_, rounds) = marks_of(steps, n, shape.m, &mut cells[..n * n]);
     const NONE: u16 = u16::MAX;
     let (mut head, mut next, mut lines) = ([NONE; 64], [NONE; 4096], 0);
     for cell in (0..n * n).rev() {
@@ -50,7 +51,7 @@ pub fn same_shape(chart: &[u8], buffer: &mut [u8]) -> Option<u64> {
     }
     let (out, _) = buffer.get_mut(..5 * lines)?.as_chunks_mut::<5>();
     let mut at = 0;
-    for mark in 1..=rounds {
+    for mark in 1..=rounds as usize {
         let mut cell = head[mark];
         while cell != NONE {
             let (p, q) = (cell as usize / n, cell as usize % n);
