@@ -19,9 +19,10 @@ use Rattle.settle.proofs.Test.{never, tested, stable, ext, both-i, both-e, neg-
 use Rattle.settle.proofs.Finite.{below-i, below-e, pairs-i}
 use Rattle.settle.proofs.Chain.{down}
 use Rattle.chart.specs.Chart.{Step}
+use Rattle.chart.specs.Layout.{StepIn}
 use Rattle.words.specs.Words.{member}
 use Rattle.words.proofs.Words.{none-member, others-member}
-use Rattle.steps.specs.Table.{HasStep}
+use Rattle.steps.specs.Table.{Table, HasStep}
 use Rattle.steps.specs.Walk.{leads}
 use Rattle.steps.proofs.Bits.{and-member}
 use Rattle.steps.proofs.Leads.{leads-i, leads-small}
@@ -127,27 +128,28 @@ module _ {n m : ℕ} {steps : List Step} {into out : List ℕ} (T : Tables n m s
           absurd (f (leads-i into 0 changed x y (omega (arith, T .states-few)) c
           (subst (λ (e : ℕ). So (member (getD into e 0) x)) (sym (zero-add y)) (T .forth .by-any y x y-in .1 (a, T .forth .by-action a y x (below-e m a o) y-in .0 s))))))))
 
-  -- ---- the first round
+-- ---- the first round, for which the table of the steps as they are is enough
 
-  module _ {whole near : List ℕ} (h : Holds n full whole) (keeps : Keeps n (ableToo into n m) whole near) where
-    able : (a p u : ℕ) → a < m → HasStep steps p a u → So (leads into ((a + 1) * n) (2 ^ n - 1) p)
-    able a p u a-in i = lead-i (T .states-few) (T .forth) a a-in (2 ^ n - 1) p u (T .steps-in _ i .target-in) (all-member n u (T .steps-in _ i .target-in)) i
+module _ {n m : ℕ} {steps : List Step} {into : List ℕ} (few : n ≤ 64) (steps-in : (v : Step) → Mem v steps → StepIn n m v) (T : Table n m steps into)
+    {whole near : List ℕ} (h : Holds n full whole) (keeps : Keeps n (ableToo into n m) whole near) where
+  able : (a p u : ℕ) → a < m → HasStep steps p a u → So (leads into ((a + 1) * n) (2 ^ n - 1) p)
+  able a p u a-in i = lead-i few T a a-in (2 ^ n - 1) p u (steps-in _ i .target-in) (all-member n u (steps-in _ i .target-in)) i
 
-    stepping : (a p : ℕ) → a < m → So (leads into ((a + 1) * n) (2 ^ n - 1) p) → (u : ℕ) × HasStep steps p a u
-    stepping a p a-in t = let r = lead-e (T .states-few) (T .forth) a a-in (2 ^ n - 1) p (omega (arith, pow-pos n)) t in (r .0, r .2)
+  stepping : (a p : ℕ) → a < m → So (leads into ((a + 1) * n) (2 ^ n - 1) p) → (u : ℕ) × HasStep steps p a u
+  stepping a p a-in t = let r = lead-e few T a a-in (2 ^ n - 1) p (omega (arith, pow-pos n)) t in (r .0, r .2)
 
-    pub first-holds : Holds n (Simulating steps 1) near
-    unfolding chain simulationRound full both
-    first-holds = keeps-holds h keeps (λ p q i j. ext
-        (λ t. matched-i steps full p q (λ s l e.
-        let a-in = T .steps-in s l .action-in in
-        let r = stepping (s .action) q a-in (each-e _ _ t (below-i m (s .action) a-in) (able (s .action) p (s .target) a-in (has-step s l e refl))) in
-        (record { source = q; action = s .action; target = r .0 }, r .1, refl, refl, refl)))
-        (λ t. each-i _ _ _ (λ a o s.
-        let a-in = below-e m a o in
-        let r = matched-e steps full p q t _ (stepping a p a-in s .1) refl in
-        able a q (r .0 .target) a-in (has-step (r .0) (r .1) (r .2) (r .3)))))
+  pub first-holds : Holds n (Simulating steps 1) near
+  unfolding chain simulationRound full both
+  first-holds = keeps-holds h keeps (λ p q i j. ext
+      (λ t. matched-i steps full p q (λ s l e.
+      let a-in = steps-in s l .action-in in
+      let r = stepping (s .action) q a-in (each-e _ _ t (below-i m (s .action) a-in) (able (s .action) p (s .target) a-in (has-step s l e refl))) in
+      (record { source = q; action = s .action; target = r .0 }, r .1, refl, refl, refl)))
+      (λ t. each-i _ _ _ (λ a o s.
+      let a-in = below-e m a o in
+      let r = matched-e steps full p q t _ (stepping a p a-in s .1) refl in
+      able a q (r .0 .target) a-in (has-step (r .0) (r .1) (r .2) (r .3)))))
 
-    pub first-took : {old noted : List ℕ} {next : ℕ} → Noted n (member (2 ^ n - 1)) whole near old noted next → Took n (Simulating steps 0) near noted next
-    unfolding chain
-    first-took d = noted-took (member (2 ^ n - 1)) h keeps d (λ x t. member-below n (2 ^ n - 1) x (omega (arith, pow-pos n)) t) (λ x q i f. absurd (f (all-member n x i)))
+  pub first-took : {old noted : List ℕ} {next : ℕ} → Noted n (member (2 ^ n - 1)) whole near old noted next → Took n (Simulating steps 0) near noted next
+  unfolding chain
+  first-took d = noted-took (member (2 ^ n - 1)) h keeps d (λ x t. member-below n (2 ^ n - 1) x (omega (arith, pow-pos n)) t) (λ x q i f. absurd (f (all-member n x i)))

@@ -2,7 +2,7 @@
 use Prim.Native.Nat.{ℕ, zero, suc, _+_, _-_, _*_, _^_, _≤_, _<_}
 use mathlib.Core.Path.{_≡_, sym, subst, _∙_}
 use mathlib.Core.Bool.{So}
-use mathlib.Core.List.{List}
+use mathlib.Core.List.{List, List·Memᴰ as Mem}
 use native.Mathlib.Omega.{arith}
 use native.Mathlib.Decide.{decLt, decLe}
 use native.Mathlib.Nat.{pow-suc}
@@ -14,8 +14,10 @@ use Rattle.settle.specs.Chain.{full, Settled}
 use Rattle.settle.proofs.Test.{never, both-e, neg-e}
 use Rattle.settle.proofs.Finite.{pairs-i, pairs-e}
 use Rattle.chart.specs.Chart.{Step}
+use Rattle.chart.specs.Layout.{StepIn}
 use Rattle.words.specs.Words.{member}
 use Rattle.words.proofs.Words.{none-member}
+use Rattle.steps.specs.Table.{Table}
 use Rattle.steps.specs.Walk.{leads}
 use Rattle.steps.proofs.Bits.{lowest-lt, lowest-in}
 use Rattle.nearness.specs.Relation.{Simulating}
@@ -37,11 +39,24 @@ pub record Rounding (n : ℕ) (steps : List Step) (near fell : List ℕ) (change
   pub took : Took n (Simulating steps k) near fell changed
   pub unsettled : (j : ℕ) → j < k → Settled (pairs n) (Simulating steps) j → ⊥
 
-module _ {n m : ℕ} {steps : List Step} {into out : List ℕ} (T : Tables n m steps into out) where
-  pub rounding-first : {whole near old fell : List ℕ} {changed : ℕ} → Holds n full whole → Keeps n (ableToo into n m) whole near
-      → Noted n (member (2 ^ n - 1)) whole near old fell changed → Rounding n steps near fell changed 0
-  rounding-first h k d = record { holds = first-holds T h k; took = first-took T h k d; unsettled = λ j l. absurd (omega arith) }
+pub rounding-first : {n m : ℕ} {steps : List Step} {into : List ℕ} → n ≤ 64 → ((v : Step) → Mem v steps → StepIn n m v) → Table n m steps into
+    → {whole near old fell : List ℕ} {changed : ℕ} → Holds n full whole → Keeps n (ableToo into n m) whole near
+    → Noted n (member (2 ^ n - 1)) whole near old fell changed → Rounding n steps near fell changed 0
+rounding-first few steps-in T h k d = record { holds = first-holds few steps-in T h k; took = first-took few steps-in T h k d; unsettled = λ j l. absurd (omega arith) }
 
+-- where nothing fell, the rounds have settled
+module _ {n : ℕ} {steps : List Step} {near fell : List ℕ} {changed k : ℕ} (w : Rounding n steps near fell changed k) where
+  pub rounding-done : changed ≡ 0 → Settles n (Simulating steps) (record { rows = near; rounds = k })
+  rounding-done z =
+      record {
+        rows-hold = record { within = w .holds .within; bits = λ p q i j. sym (same p q i j) };
+        rounds-are = (λ x i. let b = pairs-e n x i in same _ _ (b .0) (b .1) ∙ w .holds .bits _ _ (b .0) (b .1), w .unsettled);
+      }
+    where
+      same : (p q : ℕ) → p < n → q < n → Simulating steps k (p, q) ≡ inRows near p q
+      same p q i j = w .took .others-stay p q i j (λ c. never (sym (none-member p) ∙ subst (λ (y : ℕ). So (member y p)) z c))
+
+module _ {n m : ℕ} {steps : List Step} {into out : List ℕ} (T : Tables n m steps into out) where
   module _ {near fell : List ℕ} {changed k : ℕ} (w : Rounding n steps near fell changed k) where
     -- where something fell, the rounds have not settled
     module _ (some : 0 < changed) where
@@ -65,14 +80,3 @@ module _ {n m : ℕ} {steps : List Step} {into out : List ℕ} (T : Tables n m s
 
       pub rounding-more : {r old noted : List ℕ} {next : ℕ} → Keeps n (outlasts into out n m near fell changed) near r → Noted n (leads into 0 changed) near r old noted next → Rounding n steps r noted next (k + 1)
       rounding-more keeps d = rw (add-one k) (record { holds = round-holds T k (w .holds) (w .took) keeps; took = round-took T k (w .holds) (w .took) keeps d; unsettled = unsettled-yet })
-
-    -- where nothing fell, they have
-    pub rounding-done : changed ≡ 0 → Settles n (Simulating steps) (record { rows = near; rounds = k })
-    rounding-done z =
-        record {
-          rows-hold = record { within = w .holds .within; bits = λ p q i j. sym (same p q i j) };
-          rounds-are = (λ x i. let b = pairs-e n x i in same _ _ (b .0) (b .1) ∙ w .holds .bits _ _ (b .0) (b .1), w .unsettled);
-        }
-      where
-        same : (p q : ℕ) → p < n → q < n → Simulating steps k (p, q) ≡ inRows near p q
-        same p q i j = w .took .others-stay p q i j (λ c. never (sym (none-member p) ∙ subst (λ (y : ℕ). So (member y p)) z c))
