@@ -239,12 +239,11 @@ fn note_fallen(near: &Rows, next: &Rows, among: u64, fell: &mut Rows) -> u64 {
     changed
 }
 
-/// The rounds. The tables lie in these words, which are 0.
+/// The rounds. The tables lie in these words, which are 0; the second is made where there is more than one round.
 #[inline(always)]
 fn settle_simulation(triples: &[[u8; 3]], shape: Shape, into: &mut [u64], out: &mut [u64], cells: &mut [u8]) -> u64 {
     let Shape { n, m, .. } = shape;
     fill(triples, n, into);
-    fill_out(triples, n, out);
     let all = read::all(n);
     let mut near = whole(n);
     for a in 0..m {
@@ -253,6 +252,9 @@ fn settle_simulation(triples: &[[u8; 3]], shape: Shape, into: &mut [u64], out: &
     }
     let mut fell = [0; 64];
     let mut changed = note_fallen(&whole(n), &near, all, &mut fell);
+    if changed != 0 {
+        fill_out(triples, n, out);
+    }
     let tables = Tables { n, m, into, out };
     let mut k = 0;
     while changed != 0 {
