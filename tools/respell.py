@@ -16,8 +16,10 @@ EDGE = r"[A-Za-z0-9_'ℕ₀-₉⁺-]"
 BY_HAND = {"atRest": "resting_bytes", "getD": "get_or"}
 IN_CRATE = {("reason", "all_true"): "all_true_lem"}
 # Names that another may share: a label of a clause, or a function of src/ that is not in scope where the law is cited.
+# The toolchain's own, which a crate names too.
+LIBRARY = {"length-append"}
 MAY_SHARE = {"accepted_exactly", "action_known", "all_marks", "at_fault", "chart_refused", "is_earlier", "marks_are", "marks_below", "matrix_room",
-             "of_chart", "of_sheet", "sheet_refused", "triples_rise", "length_append"}
+             "of_chart", "of_sheet", "sheet_refused", "triples_rise"}
 
 
 def snake(name):
@@ -50,7 +52,7 @@ def declared():
             names.update(re.findall(r"\blet (%s)\s*(?::|=)" % TOKEN, line))
             for group in re.findall(r"[({](%s(?: %s)*) :" % (TOKEN, TOKEN), line):
                 names.update(group.split())
-    return {name for name in names if "-" in name}
+    return {name for name in names if "-" in name and name not in LIBRARY}
 
 
 def renamings():

@@ -12,7 +12,7 @@ use native.Mathlib.Nat.{not-suc-le-zero}
 use native.Mathlib.Decide.{ℕ_discrete}
 use native.Mathlib.Numerals.{add-one}
 use native.Mathlib.Omega.{arith}
-use lib.ListN.{length, length_append}
+use lib.ListN.{length, length-append}
 use Rattle.settle.specs.Test.{pick}
 use Rattle.settle.proofs.Test.{never, picked, unpicked}
 use Rattle.chart.specs.Layout.{Rising}
@@ -58,13 +58,13 @@ chosen_rising passes (suc k) = rising_append ◌<◌ (chosen passes k) _ (chosen
 pub chosen_length : (passes : ℕ → Bool) (k : ℕ) → length (chosen passes k) ≤ k
 unfolding chosen
 chosen_length passes zero = omega arith
-chosen_length passes (suc k) = omega (arith, length_append (chosen passes k) (pick (passes k) (k ∷ []) []), chosen_length passes k, last_length (passes k) k)
+chosen_length passes (suc k) = omega (arith, length-append (chosen passes k) (pick (passes k) (k ∷ []) []), chosen_length passes k, last_length (passes k) k)
 
 -- where every number passes
 pub chosen_all : (k : ℕ) → length (chosen (λ x. true) k) ≡ k
 unfolding chosen
 chosen_all zero = refl
-chosen_all (suc k) = omega (arith, length_append (chosen (λ x. true) k) (k ∷ []), chosen_all k)
+chosen_all (suc k) = omega (arith, length-append (chosen (λ x. true) k) (k ∷ []), chosen_all k)
 
 pub chosen_cong : (passes others : ℕ → Bool) (k : ℕ) → ((x : ℕ) → x < k → passes x ≡ others x) → chosen passes k ≡ chosen others k
 unfolding chosen

@@ -7,7 +7,7 @@ use mathlib.Core.List.Memᴰ
 use mathlib.Core.List.{Memᴰ as Mem}
 use mathlib.Core.Logic.{inl, ◌↔◌, ⊎_elim}
 use native.Mathlib.Omega.{arith}
-use lib.ListN.{length, length_append, length-map}
+use lib.ListN.{length, length-append, length-map}
 use lib.Dec.{ltb}
 use borrow.Author.Tests.{le-ltb, ltb-false}
 use Rattle.settle.specs.Test.{pick}
@@ -27,11 +27,11 @@ module _ (c d : Chart) where
 
   pub states_together : states (beside c d) ≡ states c + states d
   unfolding beside
-  states_together = length_append c.modes d.modes
+  states_together = length-append c.modes d.modes
 
   pub transitions_together : transitions (beside c d) ≡ transitions c + transitions d
   unfolding beside
-  transitions_together = omega (arith, length_append (moved_steps c (joint_codes c d) 0) (moved_steps d (joint_codes c d) (states c)), length-map c.steps (moved c (joint_codes c d) 0), length-map d.steps (moved d (joint_codes c d) (states c)))
+  transitions_together = omega (arith, length-append (moved_steps c (joint_codes c d) 0) (moved_steps d (joint_codes c d) (states c)), length-map c.steps (moved c (joint_codes c d) 0), length-map d.steps (moved d (joint_codes c d) (states c)))
 
   -- ---- none of the three is given
 

@@ -7,7 +7,7 @@ use mathlib.Core.List.{List, ◌∷◌, ◌++◌}
 use mathlib.Core.Logic.{◌⊎◌, inl, inr}
 use native.Mathlib.Omega.{arith}
 use native.Mathlib.Decide.{dec_le, ℕ_discrete}
-use lib.ListN.{length, get_or, take, drop, length_append, take-append-drop, get_or-append}
+use lib.ListN.{length, get_or, take, drop, length-append, take-append-drop, get_or-append}
 use lib.Seq.{length-take-le, take_all}
 use lib.Dec.{ltb, eqb}
 use Rattle.settle.specs.Test.{pick}
@@ -154,7 +154,7 @@ whole_then_more s x more sh e = go (read_chart s) (read_chart (s ++ (x ∷ more)
     go : (a whole : ChartRead) → a ≡ Read.Chart sh → read_chart (s ++ (x ∷ more)) ≡ whole → Fate s a whole → whole ≡ Read.Refused (chart_refusal 8 (length s) 0)
     go a whole i w (inl g) = let z : ◌≡◌ {A = ℕ} 0 1 = cc in absurd (omega arith)
     go a whole i w (inr (inl g)) =
-        absurd (omega (arith, (accepted s sh e).whole, (accepted (s ++ (x ∷ more)) sh (w ∙ (g ∙ i))).whole, length_append s (x ∷ more)))
+        absurd (omega (arith, (accepted s sh e).whole, (accepted (s ++ (x ∷ more)) sh (w ∙ (g ∙ i))).whole, length-append s (x ∷ more)))
     go a whole i w (inr (inr (_, g, h))) = h
 
 -- a chart that breaks off is refused 1
@@ -163,7 +163,7 @@ beginning_refused s x more sh e = go (read_chart s) refl (chart_kept s (x ∷ mo
   where
     go : (a : ChartRead) → read_chart s ≡ a → Fate s a (read_chart (s ++ (x ∷ more))) → a ≡ Read.Refused (chart_refusal 1 (length s) 0)
     go a i (inl g) = g
-    go a i (inr (inl g)) = absurd (omega (arith, (accepted s sh (i ∙ sym g ∙ e)).whole, (accepted (s ++ (x ∷ more)) sh e).whole, length_append s (x ∷ more)))
+    go a i (inr (inl g)) = absurd (omega (arith, (accepted s sh (i ∙ sym g ∙ e)).whole, (accepted (s ++ (x ∷ more)) sh e).whole, length-append s (x ∷ more)))
     go a i (inr (inr (_, g, h))) = let z : ◌≡◌ {A = ℕ} 0 1 = cc in absurd (omega arith)
 
 -- 3,173 bytes, one more than the longest chart has, decide as the whole would

@@ -4,7 +4,7 @@ use mathlib.Core.Path.{◌≡◌, refl}
 use mathlib.Core.Bool.{Bool, true, false}
 use mathlib.Core.List.{List, ◌++◌}
 use native.Mathlib.Omega.{arith}
-use lib.ListN.{length, length_append}
+use lib.ListN.{length, length-append}
 use lib.Dec.{ltb, leb}
 use borrow.Author.Tests.{leb-false, ltb-true, ltb-false, lt-leb}
 use Rattle.settle.specs.Test.{pick}
@@ -25,7 +25,7 @@ module _ {A : Type 0} (R : A → A → Type 0) where
         go true e = f _
         go false e =
             let h : p < length s = leb-false (length s) p e in
-            rw (lt-leb (length (s ++ more)) p (omega (arith, length_append s more))) (g h)
+            rw (lt-leb (length (s ++ more)) p (omega (arith, length-append s more))) (g h)
 
     -- bytes are left over on both sides, or on neither, or only among those that follow
     pub left_over : {over whole : A} → p ≤ length s → R over over → R whole whole → (p ≡ length s → R whole over)
@@ -34,6 +34,6 @@ module _ {A : Type 0} (R : A → A → Type 0) where
       where
         go : (x : Bool) → ltb p (length s) ≡ x → (y : Bool) → ltb p (length (s ++ more)) ≡ y → R (pick x over whole) (pick y over whole)
         go true e true d = f
-        go true e false d = absurd (omega (arith, ltb-true p (length s) e, ltb-false p (length (s ++ more)) d, length_append s more))
+        go true e false d = absurd (omega (arith, ltb-true p (length s) e, ltb-false p (length (s ++ more)) d, length-append s more))
         go false e true d = k (omega (arith, ltb-false p (length s) e))
         go false e false d = g

@@ -5,7 +5,7 @@ use mathlib.Core.List.Memᴰ
 use mathlib.Core.List.{List, [], ◌∷◌, ◌++◌, append-nil, Memᴰ as Mem}
 use mathlib.Core.Logic.{◌⊎◌, inl, inr, ◌↔◌}
 use native.Mathlib.Omega.{arith}
-use lib.ListN.{length, get_or, drop, length_append, drop_of_length-le}
+use lib.ListN.{length, get_or, drop, length-append, drop_of_length-le}
 use Rattle.chart.specs.Chart.{Step, Chart, states, actions, transitions}
 use Rattle.chart.specs.Layout.{step_bytes, encode, Earlier, Rising, Bytes, WellFormed}
 use Rattle.chart.specs.Reading.{bytes_at, step_at, steps_at, chart_in, read_chart, shape_of, Reads, AcceptedExactly}
@@ -114,7 +114,7 @@ written s c e =
     let h = first_byte s (3 + n + m) (rw j at g.2) in
     let k : 3 + n + m + 1 ≡ 4 + n + m = omega arith in
     let l = steps_there s (4 + n + m) c.steps [] (rw k at h.2 ∙ sym (append-nil _)) in
-    let whole : length s ≡ 4 + n + m + 3 * t = ap length e ∙ simp (length_append, step_bytes_length) (omega arith) in
+    let whole : length s ≡ 4 + n + m + 3 * t = ap length e ∙ simp (length-append, step_bytes_length) (omega arith) in
     record {
       whole = whole;
       states_at = a.1;

@@ -5,7 +5,7 @@ use mathlib.Core.Bool.{Bool, So}
 use mathlib.Core.List.{List, [], ◌∷◌}
 use native.Mathlib.Omega.{arith}
 use native.Mathlib.Nat.{mul-le-mul_right, suc-mul}
-use lib.ListN.{length, take, set, length_append}
+use lib.ListN.{length, take, set, length-append}
 use lib.Seq.{take_at}
 use Rattle.text.specs.Text.{placed}
 use Rattle.text.proofs.Laws.{length_placed, placed_none, placed_one, placed_more, placed_before, put_then}
@@ -40,7 +40,7 @@ module _ (passes : ℕ → Bool) (old : List ℕ) (at : ℕ) where
     listing_more h t =
         let few = chosen_length passes k in
         record {
-          next_is = rw (chosen_more passes k t) (omega (arith, l.next_is, length_append (chosen passes k) (k ∷ [])));
+          next_is = rw (chosen_more passes k t) (omega (arith, l.next_is, length-append (chosen passes k) (k ∷ [])));
           bytes_are = rw (chosen_more passes k t, l.next_is, l.bytes_are) (placed_more old (at + 1) (chosen passes k) k (omega arith));
         }
 
@@ -73,7 +73,7 @@ text_stands text old {new} {after} room p =
     (e, rw p.bytes_are (take_at text _ after (sym e)), omega (arith, ap length p.bytes_are, length_placed old 0 text (omega arith)))
 
 pub listed_length : (mark : ℕ) (first second : List ℕ) → length (listed mark first second) ≡ 3 + length first + length second
-listed_length mark first second = omega (arith, length_append (counted first) (counted second))
+listed_length mark first second = omega (arith, length-append (counted first) (counted second))
 
 -- the list has three bytes and at most one for each state
 pub found_short : (matrix : List ℕ) (first second : ℕ) → length (found matrix first second) ≤ 3 + first + second

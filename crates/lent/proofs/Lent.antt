@@ -8,7 +8,7 @@ use native.Mathlib.Nat.{zero-add}
 use native.Mathlib.Omega.{arith}
 use borrow.Author.Tests.{lt-ltb, le-ltb, ltb-true, ltb-false}
 use lib.Dec.{ltb}
-use lib.ListN.{length, take, drop, length_append, length-drop}
+use lib.ListN.{length, take, drop, length-append, length-drop}
 use lib.Seq.{take_at, drop_at}
 use Rattle.settle.specs.Test.{pick}
 use Rattle.refusal.specs.Refusal.{lent_refusal}
@@ -78,7 +78,7 @@ refused_leaves (writes bytes) old new r p = elim (cases bytes old p) [ inl s ↦
 
 pub length_stays : (w : Outcome) (old new : List ℕ) (answer : LentAnswer) → LentPromise w old new answer → length new ≡ length old
 length_stays (refuses r) old new answer p = ap length p.bytes
-length_stays (writes bytes) old new answer p = elim (cases bytes old p) [ inl s ↦ ap length s.2 | inr f ↦ omega (arith, f.0, ap length f.2, length_append bytes (drop (length bytes) old), length-drop (length bytes) old) ]
+length_stays (writes bytes) old new answer p = elim (cases bytes old p) [ inl s ↦ ap length s.2 | inr f ↦ omega (arith, f.0, ap length f.2, length-append bytes (drop (length bytes) old), length-drop (length bytes) old) ]
 
 -- what is written fills the start, its length stands in the answer, and later bytes stay
 pub record Filled (w : Outcome) (old new : List ℕ) (size : ℕ) : Type 0 where

@@ -3,7 +3,7 @@ use Prim.Native.Nat.{ℕ, zero, suc, ◌+◌, ◌*◌, ◌≤◌, ◌<◌}
 use mathlib.Core.Path.{◌≡◌, refl, ap, ap₂, ◌∙◌}
 use mathlib.Core.List.{List, [], ◌∷◌, ◌++◌}
 use native.Mathlib.Omega.{arith}
-use lib.ListN.{length, get_or, take, drop, length_append, get_or-append}
+use lib.ListN.{length, get_or, take, drop, length-append, get_or-append}
 use lib.Seq.{get_or-append-add, take-add, take_all}
 use Rattle.chart.proofs.Steps.{byte_then}
 use Rattle.reason.specs.Line.{Line, line_bytes, list_bytes, line_at, lines_in}
@@ -11,7 +11,7 @@ use Rattle.reason.specs.Line.{Line, line_bytes, list_bytes, line_at, lines_in}
 pub bytes_length : (lines : List Line) → length (list_bytes lines) ≡ 5 * length lines
 unfolding list_bytes
 bytes_length [] = refl
-bytes_length (l ∷ earlier) = omega (arith, length_append (list_bytes earlier) (line_bytes l), bytes_length earlier)
+bytes_length (l ∷ earlier) = omega (arith, length-append (list_bytes earlier) (line_bytes l), bytes_length earlier)
 
 pub lines_length : (s : List ℕ) (k : ℕ) → length (lines_in s k) ≡ k
 unfolding lines_in

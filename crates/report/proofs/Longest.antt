@@ -7,7 +7,7 @@ use native.Mathlib.Omega.{arith}
 use native.Mathlib.Nat.{le_refl}
 use native.Mathlib.Decide.{dec_lt, le_ind}
 use lib.Dec.{eqb}
-use lib.ListN.{length, length_append}
+use lib.ListN.{length, length-append}
 use Rattle.settle.specs.Test.{pick}
 use Rattle.refusal.specs.Refusal.{input_number}
 use Rattle.refusal.specs.declared.Refusal.{Refusal}
@@ -68,13 +68,13 @@ module _ (n : ℕ) (few : n ≤ 64) (mark : ℕ → ℕ → ℕ) (small : (p q :
   row_most p (suc k) h =
       let q : ℕ = p + 1 + k in
       let most : length (pair_text p q (mark p q)) ≤ 9 = pair_most p q (mark p q) (omega arith) (omega arith) (small p q (omega arith) (omega arith)) in
-      omega (arith, length_append (row_text mark p k) (pair_text p q (mark p q)), row_most p k (omega arith))
+      omega (arith, length-append (row_text mark p k) (pair_text p q (mark p q)), row_most p k (omega arith))
 
   rows_most : (k : ℕ) → k ≤ n → length (rows_text mark n k) ≤ total k
   unfolding rows_text total
   rows_most zero h = omega arith
   rows_most (suc k) h =
-      omega (arith, length_append (rows_text mark n k) (row_text mark k (n - 1 - k)), rows_most k (omega arith), row_most k (n - 1 - k) (omega arith))
+      omega (arith, length-append (rows_text mark n k) (row_text mark k (n - 1 - k)), rows_most k (omega arith), row_most k (n - 1 - k) (omega arith))
 
   pub chart_most : (rounds : ℕ) → rounds < 100 → length (chart_text n rounds mark) ≤ 18164
   chart_most rounds h =

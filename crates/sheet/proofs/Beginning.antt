@@ -6,7 +6,7 @@ use mathlib.Core.List.{List, ◌∷◌, ◌++◌}
 use mathlib.Core.Logic.{◌⊎◌, inl, inr}
 use native.Mathlib.Omega.{arith}
 use native.Mathlib.Decide.{dec_le, ℕ_discrete}
-use lib.ListN.{length, get_or, take, drop, length_append, take-append-drop, get_or-append}
+use lib.ListN.{length, get_or, take, drop, length-append, take-append-drop, get_or-append}
 use lib.Seq.{length-take-le, take_all}
 use lib.Dec.{ltb, eqb}
 use Rattle.refusal.specs.Refusal.{sheet_refusal}
@@ -116,7 +116,7 @@ refusal_stands s more m r e f = go (read_sheet s m) (read_sheet (s ++ more) m) e
 -- bytes, and the same with more after them, are not accepted as one formula
 one_whole : (s : List ℕ) (x : ℕ) (more : List ℕ) (m kind count : ℕ) (f : Formula) → read_sheet s m ≡ sheet kind count f → read_sheet (s ++ (x ∷ more)) m ≡ sheet kind count f → ⊥
 one_whole s x more m kind count f e h =
-    omega (arith, ap length (layout_read s m kind count f e).0, ap length (layout_read (s ++ (x ∷ more)) m kind count f h).0, length_append s (x ∷ more))
+    omega (arith, ap length (layout_read s m kind count f e).0, ap length (layout_read (s ++ (x ∷ more)) m kind count f h).0, length-append s (x ∷ more))
 
 -- bytes after a whole sheet are refused 8 at the first
 pub whole_then_more : (s : List ℕ) (x : ℕ) (more : List ℕ) (m kind count : ℕ) (f : Formula) → read_sheet s m ≡ sheet kind count f

@@ -7,7 +7,7 @@ use mathlib.Core.List.{List, [], ◌∷◌, ◌++◌, append_assoc}
 use native.Mathlib.Omega.{arith}
 use borrow.Author.Tests.{leb-true, leb-false, ltb-true, ltb-false, eqb-true, eqb-false}
 use lib.Dec.{leb, ltb, eqb}
-use lib.ListN.{length, get_or, take, drop, length_append}
+use lib.ListN.{length, get_or, take, drop, length-append}
 use lib.Seq.{take_at}
 use Rattle.settle.proofs.Test.{by_test}
 use Rattle.refusal.specs.Refusal.{sheet_refusal}
@@ -181,8 +181,8 @@ unfolding formula_bytes nodes
 bytes_few variable = omega arith
 bytes_few top = omega arith
 bytes_few bottom = omega arith
-bytes_few (and f g) = omega (arith, bytes_few f, bytes_few g, length_append (formula_bytes f) (formula_bytes g))
-bytes_few (or f g) = omega (arith, bytes_few f, bytes_few g, length_append (formula_bytes f) (formula_bytes g))
+bytes_few (and f g) = omega (arith, bytes_few f, bytes_few g, length-append (formula_bytes f) (formula_bytes g))
+bytes_few (or f g) = omega (arith, bytes_few f, bytes_few g, length-append (formula_bytes f) (formula_bytes g))
 bytes_few (diamond l f) = omega (arith, bytes_few f)
 bytes_few (box l f) = omega (arith, bytes_few f)
 
@@ -272,7 +272,7 @@ module _ (s : List ℕ) (m at left : ℕ) where
             k.node_is,
             u,
           );
-          next = rw b (omega (arith, F.stands.next, G.stands.next, length_append (formula_bytes f) (formula_bytes g)));
+          next = rw b (omega (arith, F.stands.next, G.stands.next, length-append (formula_bytes f) (formula_bytes g)));
           inside = G.stands.inside;
         };
       }

@@ -7,7 +7,7 @@ use mathlib.Core.List.{List, [], ◌∷◌, ◌++◌, append_assoc}
 use native.Mathlib.Omega.{arith}
 use borrow.Author.Tests.{lt-leb, lt-ltb, le-ltb, eq-eqb, ne_eqb}
 use lib.Dec.{ltb, eqb}
-use lib.ListN.{length, get_or, drop, length_append}
+use lib.ListN.{length, get_or, drop, length-append}
 use lib.Seq.{drop-drop, drop-append_seam}
 use Rattle.settle.specs.Test.{pick}
 use Rattle.chart.proofs.Steps.{first_byte}
@@ -70,7 +70,7 @@ module _ (s : List ℕ) (m : ℕ) where
         two_at s m at node t.0 t.1 h₁ h₂,
         F (at + 1) (left - 1) _ (omega arith) u,
         G (at + 1 + length (formula_bytes f)) (left - 1 - nodes f) rest (omega arith) v,
-      ) (same_parsed q (rw b (omega (arith, length_append (formula_bytes f) (formula_bytes g)))) (omega arith))
+      ) (same_parsed q (rw b (omega (arith, length-append (formula_bytes f) (formula_bytes g)))) (omega arith))
 
   one_back : (node byte : ℕ) (f e : Formula) → 5 ≤ node → node ≤ 6 → (byte < m) ⊎ (byte ≡ 255) → one_of node byte f ≡ e
       → nodes e ≡ suc (nodes f) → formula_bytes e ≡ node ∷ byte ∷ formula_bytes f → ReadBack s m f → ReadBack s m e

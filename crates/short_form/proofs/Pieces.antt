@@ -5,7 +5,7 @@ use mathlib.Core.Bool.{Bool, true, false}
 use mathlib.Core.List.{List, [], ◌∷◌, ◌++◌}
 use native.Mathlib.Omega.{arith}
 use lib.Dec.{eqb}
-use lib.ListN.{length, drop, length_append}
+use lib.ListN.{length, drop, length-append}
 use Rattle.settle.specs.Test.{pick}
 use Rattle.sheet.specs.Formula.{Formula, nodes}
 use Rattle.sheet.specs.Layout.{label_byte, formula_bytes, encode}
@@ -62,7 +62,7 @@ more_few name = in_each (λ k. k ≤ 6) (eqb name 0) (eqb name 1) (eqb name 2) (
 module _ (s : List ℕ) (kind : ℕ) (f : Formula) (e : s ≡ encode kind f) (name : ℕ) where
   pub form_length : length (encode (kind_written name) (short_form name f)) ≡ length s + 1 + length (operand_of name)
   unfolding encode
-  form_length = omega (arith, sheet_length s kind f e, ap length (form_bytes name f), length_append (formula_bytes f) (operand_of name))
+  form_length = omega (arith, sheet_length s kind f e, ap length (form_bytes name f), length-append (formula_bytes f) (operand_of name))
 
   pub form_encoded : (total : ℕ) → total ≡ nodes (short_form name f)
       → 1 ∷ kind_written name ∷ total ∷ operator_of name ∷ (drop 3 s ++ operand_of name) ≡ encode (kind_written name) (short_form name f)

@@ -6,7 +6,7 @@ use mathlib.Core.List.{List, [], ◌∷◌, ◌++◌, append_assoc, append-nil}
 use native.Mathlib.Omega.{arith}
 use native.Mathlib.Numerals.{add-one}
 use lib.Dec.{eqb, ltb}
-use lib.ListN.{length, get_or, drop, length_append, drop_of_length-le}
+use lib.ListN.{length, get_or, drop, length-append, drop_of_length-le}
 use lib.Seq.{drop-cons}
 use Rattle.settle.specs.Test.{pick, both}
 use Rattle.sheet.specs.Formula.{Formula, variable, top, bottom, and, or, diamond, box, variable_free}
@@ -92,8 +92,8 @@ unfolding variable_free before_variable formula_bytes Within
 within variable = omega arith
 within top = refl
 within bottom = refl
-within (and f g) = two_within (variable_free f) (variable_free g) _ _ _ _ _ (length_append (formula_bytes f) (formula_bytes g)) (within f) (within g)
-within (or f g) = two_within (variable_free f) (variable_free g) _ _ _ _ _ (length_append (formula_bytes f) (formula_bytes g)) (within f) (within g)
+within (and f g) = two_within (variable_free f) (variable_free g) _ _ _ _ _ (length-append (formula_bytes f) (formula_bytes g)) (within f) (within g)
+within (or f g) = two_within (variable_free f) (variable_free g) _ _ _ _ _ (length-append (formula_bytes f) (formula_bytes g)) (within f) (within g)
 within (diamond l f) = one_within (variable_free f) _ _ (within f)
 within (box l f) = one_within (variable_free f) _ _ (within f)
 

@@ -5,7 +5,7 @@ use mathlib.Core.List.Memᴰ.{head as here}
 use mathlib.Core.List.Memᴰ.{tail as there}
 use mathlib.Core.List.{List, [], ◌∷◌, ◌++◌, append_assoc, map, Memᴰ as Mem}
 use native.Mathlib.Omega.{arith}
-use lib.ListN.{length, get_or, take, length_append, length-map}
+use lib.ListN.{length, get_or, take, length-append, length-map}
 use borrow.Author.Tests.{lt-ltb, le-ltb}
 use Rattle.refusal.specs.Refusal.{lent_refusal}
 use Rattle.refusal.specs.declared.Refusal.{Refusal}
@@ -46,7 +46,7 @@ unfolding encode beside
 layout_parts c d = rw (states_together c d, transitions_together c d, step_bytes_append) (sym (head_then c.modes d.modes (joint_codes c d) (transitions c + transitions d) _))
 
 head_length : (first second codes : List ℕ) (t : ℕ) → length (head first second codes t) ≡ 4 + length first + length second + length codes
-head_length first second codes t = simp length_append (omega arith)
+head_length first second codes t = simp length-append (omega arith)
 
 -- ---- the steps, by the table
 
@@ -117,7 +117,7 @@ module _ (first : List ℕ) (a : Shape) (second : List ℕ) (b : Shape) where
         let lx : r₁ ≡ 4 + a.n + b.n + count = head_end J H in
         let ly : length y ≡ 3 * a.t = rw (step_bytes_length, length-map, steps_at_length) in
         let p₁₂ = put_then old 0 x y (omega arith) p₁ p₂ in
-        let all = put_then old 0 (x ++ y) z (omega (arith, length_append x y)) p₁₂ p₃ in
+        let all = put_then old 0 (x ++ y) z (omega (arith, length-append x y)) p₁₂ p₃ in
         let parts : encode (beside one other) ≡ x ++ y ++ z = layout_parts one other ∙ rw transitions_are (sym (append_assoc x y z)) in
         subst⁻¹ (λ (bytes : List ℕ). Put old 0 bytes r₃ b₃) parts all
 

@@ -6,7 +6,7 @@ use mathlib.Core.List.{List, [], ◌∷◌, ◌++◌, Memᴰ as Mem}
 use native.Mathlib.Numerals.{add-one}
 use native.Mathlib.Decide.{ℕ_discrete}
 use native.Mathlib.Omega.{arith}
-use lib.ListN.{length, get_or, take, set, length_append, length-set, length-take}
+use lib.ListN.{length, get_or, take, set, length-append, length-set, length-take}
 use lib.Seq.{get_or-set_same, get_or-set_other, take-suc-set}
 use lib.Dec.{eqb}
 use borrow.Author.Tests.{eq-eqb, ne_eqb, eqb-true}
@@ -69,7 +69,7 @@ module _ (old : List ℕ) {new codes : List ℕ} {count x : ℕ} (N : Numbering 
       let t : So (flagged old x) = eq-eqb _ _ (sym (N.rest_is x (omega arith)) ∙ e) in
       let more = chosen_more (flagged old) x t in
       record {
-        count_is = rw more (omega (arith, N.count_is, length_append (chosen (flagged old) x) (x ∷ [])));
+        count_is = rw more (omega (arith, N.count_is, length-append (chosen (flagged old) x) (x ∷ [])));
         codes_are = rw (add-one count, take-suc-set codes count x h, N.codes_are, more);
         places_are = λ y below flag. rw more (place y flag (ℕ_discrete y x) (omega arith));
         rest_is = λ y above. get_or-set_other new x y count 0 (λ same. absurd (omega arith)) ∙ N.rest_is y (omega arith);

@@ -3,7 +3,7 @@ use Prim.Native.Nat.{ℕ, ◌+◌, ◌-◌, ◌*◌, ◌%◌, ◌/◌, ◌<◌, 
 use mathlib.Core.Path.{◌≡◌, refl, ap}
 use mathlib.Core.List.{List, [], ◌∷◌, ◌++◌, append_assoc, map, map-append}
 use native.Mathlib.Omega.{arith}
-use lib.ListN.{length, get_or, take, drop, set, length_append, length-map}
+use lib.ListN.{length, get_or, take, drop, set, length-append, length-map}
 use Rattle.text.specs.Text.{placed, PutPromise}
 use Rattle.text.proofs.Laws.{Put, put_fits, put_next, put_start, placed_none, placed_more}
 use Rattle.chart.specs.Chart.{Step}
@@ -28,10 +28,10 @@ six_put : (old u v w x y z : List ℕ) {r₁ r₂ r₃ r₄ r₅ r₆ : ℕ} {b�
     → PutPromise b₃ r₃ x r₄ b₄ → PutPromise b₄ r₄ y r₅ b₅ → PutPromise b₅ r₅ z r₆ b₆
     → Put old 0 (u ++ ((v ++ w) ++ (x ++ (y ++ z)))) r₆ b₆
 six_put old u v w x y z room p₁ p₂ p₃ p₄ p₅ p₆ =
-    let l₂ = length_append u v in
-    let l₃ = length_append (u ++ v) w in
-    let l₄ = length_append (u ++ v ++ w) x in
-    let l₅ = length_append (u ++ v ++ w ++ x) y in
+    let l₂ = length-append u v in
+    let l₃ = length-append (u ++ v) w in
+    let l₄ = length-append (u ++ v ++ w) x in
+    let l₅ = length-append (u ++ v ++ w ++ x) y in
     let q₁ = put_fits old 0 u (omega arith) p₁ in
     let q₂ = put_next old 0 u v (omega arith) q₁ p₂ in
     let q₃ = put_next old 0 (u ++ v) w (omega arith) q₂ p₃ in
@@ -72,8 +72,8 @@ placed_three : (b : List ℕ) (at : ℕ) (s : List ℕ) (x y z p : ℕ) → p �
     → set (set (set (placed b at s) p x) (p + 1) y) (p + 2) z ≡ placed b at (s ++ (x ∷ y ∷ z ∷ []))
 placed_three b at s x y z p e room =
     let e₁ = one s x p e (omega arith) in
-    let e₂ = one (s ++ (x ∷ [])) y (p + 1) (omega (arith, length_append s (x ∷ []))) (omega arith) in
-    let e₃ = one (s ++ (x ∷ []) ++ (y ∷ [])) z (p + 2) (omega (arith, length_append s (x ∷ []), length_append (s ++ (x ∷ [])) (y ∷ []))) (omega arith) in
+    let e₂ = one (s ++ (x ∷ [])) y (p + 1) (omega (arith, length-append s (x ∷ []))) (omega arith) in
+    let e₃ = one (s ++ (x ∷ []) ++ (y ∷ [])) z (p + 2) (omega (arith, length-append s (x ∷ []), length-append (s ++ (x ∷ [])) (y ∷ []))) (omega arith) in
     rw (e₁, e₂, e₃) (simp append_assoc)
   where
     one : (t : List ℕ) (v q : ℕ) → q ≡ at + length t → q < length b → set (placed b at t) q v ≡ placed b at (t ++ (v ∷ []))

@@ -6,7 +6,7 @@ use native.Mathlib.Nat.{zero-add}
 use native.Mathlib.Omega.{arith}
 use native.Mathlib.Numerals.{add-one}
 use native.Mathlib.Decide.{dec_lt}
-use lib.ListN.{length, take, drop, set, length_append, length-drop}
+use lib.ListN.{length, take, drop, set, length-append, length-drop}
 use lib.Seq.{length-take-le, take_at, drop_at, drop-drop, append_snoc, set_split, set-append_left, take-set-lt, drop-set-lt, paste-zero}
 use lib.Dec.{leb}
 use mathlib.Core.Bool.{true, false}
@@ -61,7 +61,7 @@ pub width_small : (x : ℕ) → x < 10 → length (decimal x) ≡ 1
 width_small x h = ap length (decimal_small x h)
 
 pub width_step : (x : ℕ) → 10 ≤ x → length (decimal x) ≡ length (decimal (x / 10)) + 1
-width_step x h = ap length (decimal_step x h) ∙ length_append (decimal (x / 10)) ((48 + x % 10) ∷ [])
+width_step x h = ap length (decimal_step x h) ∙ length-append (decimal (x / 10)) ((48 + x % 10) ∷ [])
 
 pub width_some : (x : ℕ) → 1 ≤ length (decimal x)
 width_some x = go (dec_lt x 10)
@@ -78,12 +78,12 @@ width_most = by_tenths (λ x. length (decimal x) ≤ 1 + x / 10) (λ x h. omega 
 module _ (b : List ℕ) (at : ℕ) (s : List ℕ) (room : at + length s ≤ length b) where
   -- what stands before the end of the text
   front_length : length (take at b ++ s) ≡ at + length s
-  front_length = length_append (take at b) s ∙ ap (λ (k : ℕ). k + length s) (length-take-le at b (omega arith))
+  front_length = length-append (take at b) s ∙ ap (λ (k : ℕ). k + length s) (length-take-le at b (omega arith))
 
   pub length_placed : length (placed b at s) ≡ length b
   unfolding placed
   length_placed =
-      let e : length (take at b ++ s ++ drop (at + length s) b) ≡ length (take at b ++ s) + length (drop (at + length s) b) = length_append (take at b ++ s) (drop (at + length s) b) in
+      let e : length (take at b ++ s ++ drop (at + length s) b) ≡ length (take at b ++ s) + length (drop (at + length s) b) = length-append (take at b ++ s) (drop (at + length s) b) in
       omega (arith, front_length, length-drop (at + length s) b)
 
   -- a text after a text is one text
@@ -92,7 +92,7 @@ module _ (b : List ℕ) (at : ℕ) (s : List ℕ) (room : at + length s ≤ leng
   placed_append t =
       let n : ℕ = at + length s in
       let front : List ℕ = take at b ++ s in
-      let end : n + length t ≡ at + length (s ++ t) = omega (arith, length_append s t) in
+      let end : n + length t ≡ at + length (s ++ t) = omega (arith, length-append s t) in
       ap (λ (l : List ℕ). l ++ t ++ drop (n + length t) (front ++ drop n b)) (take_at front (drop n b) n front_length)
       ∙ ap (λ (l : List ℕ). front ++ t ++ l)
       (sym (drop-drop (length t) n (front ++ drop n b)) ∙ ap (drop (length t)) (drop_at front (drop n b) n front_length) ∙ drop-drop (length t) n b)
@@ -119,7 +119,7 @@ unfolding placed
 placed_later b at s i x h room =
     let front : length (take at b) ≡ at = length-take-le at b room in
     let rest : List ℕ = drop (at + length s) b in
-    set-append_left (take at b ++ s) rest i x (omega (arith, length_append (take at b) s))
+    set-append_left (take at b ++ s) rest i x (omega (arith, length-append (take at b) s))
     ∙ ap (λ (l : List ℕ). l ++ rest) (set-append_left (take at b) s i x (omega arith))
     ∙ rw (take-set-lt at b i x h, drop-set-lt (at + length s) b i x (omega arith))
 
@@ -135,7 +135,7 @@ abbrev pub Put : List ℕ → ℕ → List ℕ → ℕ → List ℕ → Type 0
 Put b at t r b' = (r ≡ at + length t) × (b' ≡ placed b at t)
 
 pub put_then : (b : List ℕ) (at : ℕ) (s t : List ℕ) {r r' : ℕ} {b' b'' : List ℕ} → at + length s ≤ length b → Put b at s r b' → Put b' r t r' b'' → Put b at (s ++ t) r' b''
-put_then b at s t room p q = (omega (arith, length_append s t), q.1 ∙ rw (p.0, p.1) (placed_append b at s room t))
+put_then b at s t room p q = (omega (arith, length-append s t), q.1 ∙ rw (p.0, p.1) (placed_append b at s room t))
 
 -- what a function that puts a text owes, where its test of the room was true, and where it was false
 module _ (b : List ℕ) (at : ℕ) (t : List ℕ) where
@@ -174,7 +174,7 @@ abbrev followed : ℕ → ℕ → List ℕ
 followed x byte = decimal x ++ (byte ∷ [])
 
 pub length_followed : (x byte : ℕ) → length (decimal x ++ (byte ∷ [])) ≡ length (decimal x) + 1
-length_followed x byte = length_append (decimal x) (byte ∷ [])
+length_followed x byte = length-append (decimal x) (byte ∷ [])
 
 pub line_three : (x y z : ℕ) → line (x ∷ y ∷ z ∷ []) ≡ (followed x 32 ++ followed y 32) ++ followed z 10
 unfolding line
@@ -183,4 +183,4 @@ line_three x y z = simp append_assoc
 pub length_line : (x y z : ℕ) → length (line (x ∷ y ∷ z ∷ [])) ≡ length (decimal x) + length (decimal y) + length (decimal z) + 3
 length_line x y z =
     ap length (line_three x y z)
-    ∙ simp length_append (omega arith)
+    ∙ simp length-append (omega arith)

@@ -2,7 +2,7 @@ use borrow.Author.Rules.{rules}
 use native.Mathlib.Omega.{arith}
 use Prim.Native.Nat.{◌+◌, ◌≤◌}
 use mathlib.Core.List.{[], ◌∷◌, ◌++◌}
-use lib.ListN.{length, length_append}
+use lib.ListN.{length, length-append}
 use Rattle.relation.specs.Promise.{byte_at}
 use Rattle.text.specs.Text.{line}
 use Rattle.text.proofs.Laws.{put_then, put_start}
@@ -47,8 +47,8 @@ returns c =
     let first = states_word ++ line (a.n ∷ []) in
     let second = rounds_word ++ line (a.rounds ∷ []) in
     let rows = rows_text (byte_at a.n a.matrix.now) a.n a.n in
-    let room : 0 + length (first ++ second) ≤ length old = omega (arith, s.requires.1, chart_length a.n a.rounds (byte_at a.n a.matrix.now), length_append first second) in
-    let two = put_then old 0 first second (omega (arith, length_append first second)) c.before.before.before.before.before.before.before.before.before.before.before.put_count.ensures c.before.before.before.before.before.before.put-count2.ensures in
+    let room : 0 + length (first ++ second) ≤ length old = omega (arith, s.requires.1, chart_length a.n a.rounds (byte_at a.n a.matrix.now), length-append first second) in
+    let two = put_then old 0 first second (omega (arith, length-append first second)) c.before.before.before.before.before.before.before.before.before.before.before.put_count.ensures c.before.before.before.before.before.before.put-count2.ensures in
     put_start old ((first ++ second) ++ rows) (put_then old 0 (first ++ second) rows room two c.before.before.put-rows.ensures)
 
 pub put-chart-spec : {M : Type 1} → statement M

@@ -2,7 +2,7 @@ use borrow.Author.Rules.{rules}
 use native.Mathlib.Omega.{arith}
 use Prim.Native.Nat.{◌+◌, ◌≤◌}
 use mathlib.Core.List.{[], ◌∷◌, ◌++◌}
-use lib.ListN.{length, length_append}
+use lib.ListN.{length, length-append}
 use Rattle.text.specs.Text.{decimal}
 use Rattle.text.proofs.Laws.{put_fits, put_next}
 use Rattle.report.proofs.Laws.{count_text, count_length}
@@ -33,7 +33,7 @@ returns c =
     let room : a.at + (length word + length (decimal a.x) + 1) ≤ length old = omega (arith, s.requires, count_length word a.x) in
     let one = put_fits old a.at word (omega arith) c.before.before.before.before.before.before.before.before.before.before.before.put-bytes.ensures in
     let two = put_next old a.at word (decimal a.x) (omega arith) one c.before.before.before.before.before.before.before.put-number.ensures in
-    let three = put_next old a.at (word ++ decimal a.x) (10 ∷ []) (omega (arith, length_append word (decimal a.x))) two c.before.before.put-bytes2.ensures in
+    let three = put_next old a.at (word ++ decimal a.x) (10 ∷ []) (omega (arith, length-append word (decimal a.x))) two c.before.before.put-bytes2.ensures in
     rw count_text at three
 
 pub put-count-spec : {M : Type 1} → statement M

@@ -2,7 +2,7 @@ use borrow.Author.Rules.{rules}
 use native.Mathlib.Omega.{arith}
 use Prim.Native.Nat.{◌+◌, ◌≤◌}
 use mathlib.Core.List.{[], ◌∷◌, ◌++◌}
-use lib.ListN.{length, length_append}
+use lib.ListN.{length, length-append}
 use Rattle.refusal.specs.Refusal.{input_number}
 use Rattle.text.specs.Text.{decimal, line}
 use Rattle.text.proofs.Laws.{put_fits, put_next, put_start}
@@ -54,11 +54,11 @@ returns c =
     let row = line (r.number ∷ r.place ∷ r.byte ∷ []) in
     let first = refused_word ++ input in
     let room : length refused_word + length input + 1 + length row ≤ length old = omega (arith, s.requires, refused_length r) in
-    let long = length_append refused_word input in
+    let long = length-append refused_word input in
     let one = put_fits old 0 refused_word (omega arith) c.before.before.before.before.before.before.before.before.before.before.before.before.before.before.before.before.before.before.put-bytes.ensures in
     let two = put_next old 0 refused_word input (omega arith) one (rw c.before.before.before.before.before.before.before.before.before.before.before.before.before.before.input-number.ensures at c.before.before.before.before.before.before.before.before.before.before.before.before.before.put-number.ensures) in
     let three = put_next old 0 first (32 ∷ []) (omega arith) two c.before.before.before.before.before.before.before.before.put-bytes2.ensures in
-    let four = put_next old 0 (first ++ (32 ∷ [])) row (omega (arith, length_append first (32 ∷ []))) three c.before.before.put-line.ensures in
+    let four = put_next old 0 (first ++ (32 ∷ [])) row (omega (arith, length-append first (32 ∷ []))) three c.before.before.put-line.ensures in
     rw (← refused_text_lem r) (put_start old (first ++ (32 ∷ []) ++ row) four)
 
 pub put-refusal-spec : {M : Type 1} → statement M

@@ -3,7 +3,7 @@ use native.Mathlib.Omega.{arith}
 use Prim.Native.Nat.{ℕ, ◌+◌, ◌-◌, ◌≤◌}
 use mathlib.Core.List.{List, [], ◌∷◌, ◌++◌, append_assoc}
 use mathlib.Core.Path.{◌≡◌}
-use lib.ListN.{length, take, drop, length_append, length-drop}
+use lib.ListN.{length, take, drop, length-append, length-drop}
 use lib.Seq.{take_all}
 use Rattle.text.specs.Text.{placed, PutPromise}
 use Rattle.text.proofs.Laws.{put_fits, put_next}
@@ -17,7 +17,7 @@ joined : (old head rest tail : List ℕ) {b₁ b₂ new : List ℕ} {r₁ r₂ r
 joined old head rest tail room h₁ h₂ h₃ =
     let one = put_fits old 0 head (omega arith) h₁ in
     let two = put_next old 0 head rest (omega arith) one h₂ in
-    let three = put_next old 0 (head ++ rest) tail (omega (arith, length_append head rest)) two h₃ in
+    let three = put_next old 0 (head ++ rest) tail (omega (arith, length-append head rest)) two h₃ in
     rw append_assoc at three.1
 
 kind-written-requires : tie.Need-kind-written-requires

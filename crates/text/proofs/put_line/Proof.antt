@@ -6,7 +6,7 @@ use mathlib.Core.Path.{◌≡◌, sym, ◌∙◌}
 use mathlib.Core.List.{List, [], ◌∷◌, ◌++◌}
 use mathlib.Core.Bool.{Bool, true}
 use Prim.Native.Nat.{ℕ, ◌+◌, ◌≤◌}
-use lib.ListN.{length, length_append}
+use lib.ListN.{length, length-append}
 use lib.Dec.{leb}
 use Rattle.text.specs.Text.{decimal, line}
 use Rattle.text.proofs.Laws.{put_then, put_done, put_none, width_most, length_followed, length_line, line_three}
@@ -95,8 +95,8 @@ returns c =
     let m = c.before.before.put-followed3 in
     let x = decimal a.a ++ (32 ∷ []) in
     let y = decimal a.b ++ (32 ∷ []) in
-    let room-two : a.at + length (x ++ y) ≤ length a.buffer.now = omega (arith, room t, length_followed a.a 32, length_followed a.b 32, length_append x y) in
-    let two = put_then a.buffer.now a.at x y (omega (arith, length_append x y)) k.ensures l.ensures in
+    let room-two : a.at + length (x ++ y) ≤ length a.buffer.now = omega (arith, room t, length_followed a.a 32, length_followed a.b 32, length-append x y) in
+    let two = put_then a.buffer.now a.at x y (omega (arith, length-append x y)) k.ensures l.ensures in
     put_done a.buffer.now a.at (Line t) (test t) (rw line_three (put_then a.buffer.now a.at (x ++ y) (decimal a.c ++ (10 ∷ [])) room-two two m.ensures))
 
 returns-2 : tie.Need-returns-2
