@@ -1,4 +1,6 @@
 // The boards and edges of document 01 that are not starred, run on the proved functions.
+#![tactic(auto)]
+
 ghost use Rattle.std.specs.Prelude.{◌≡◌};
 ghost use Rattle.chart.specs.Reading.{read_chart};
 ghost use Rattle.sheet.specs.Reading.{read_sheet, sheet_read};

@@ -1,4 +1,6 @@
 // Both solutions of a property sheet, whatever its kind says: so that the owner of a stored sheet can choose.
+#![tactic(auto)]
+
 ghost use Rattle.both_solutions.specs.Promise.{BothPromise};
 
 use chart::ChartRead;

@@ -1,4 +1,6 @@
 // Reading a chart: each byte judged as read, the first fault refused.
+#![tactic(auto)]
+
 ghost use Rattle.std.specs.Prelude.{◌≡◌, ◌+◌, ◌*◌, ◌≤◌, ◌<◌, length};
 ghost use Rattle.chart.specs.Reading.{step_at, code_order, judge_codes, judge_byte, earlier, triple_order, judge_triple, judge_triples, read_transitions, read_actions, read_chart, AcceptedExactly};
 

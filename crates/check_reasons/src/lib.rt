@@ -1,4 +1,6 @@
 // Judging a list that somebody hands in: it is accepted exactly if it is good.
+#![tactic(auto)]
+
 ghost use Rattle.std.specs.Prelude.{ℕ, ◌+◌, ◌*◌, ◌≤◌, ◌<◌, length, get_or};
 ghost use Rattle.words.specs.Words.{member};
 ghost use Rattle.chart.specs.Reading.{steps_at};

@@ -1,4 +1,6 @@
 // The line of an unequal pair: of its moves whose paired targets all have smaller nonzero marks the first, side 0 first.
+#![tactic(auto)]
+
 ghost use Rattle.std.specs.Prelude.{ℕ, ◌+◌, ◌*◌, ◌≤◌, ◌<◌, length, get_or};
 ghost use Rattle.chart.specs.Reading.{step_at};
 ghost use Rattle.ranges.specs.Sources.{Sorted, target_at, steps_by};

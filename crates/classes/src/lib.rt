@@ -1,5 +1,7 @@
 // The rounds of marks, one word a row. A row of a round is a class: the states that no formula of that depth tells from p. The marks are written into a
 // lent buffer, each when its pair falls.
+#![tactic(auto)]
+
 ghost use Rattle.std.specs.Prelude.{◌≡◌, ◌+◌, ◌*◌, ◌≤◌, length};
 ghost use Rattle.chart.specs.Reading.{chart_in};
 ghost use Rattle.nearness.specs.Relation.{Near};

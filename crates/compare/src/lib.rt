@@ -1,4 +1,6 @@
 // Comparing an old unit's chart with a new one's: the mark of the two start states, and which states of each have no partner in the other.
+#![tactic(auto)]
+
 ghost use Rattle.std.specs.Prelude.{◌≡◌, ◌+◌, ◌*◌, ◌≤◌, ◌<◌, length};
 ghost use Rattle.chart.specs.Chart.{Chart, states};
 ghost use Rattle.chart.specs.Layout.{encode, WellFormed};

@@ -1,5 +1,7 @@
 // Which states of a chart are equal (strongly bisimilar), one word a state, and how many pairs of them there are: both from the words in which the
 // relation is worked out.
+#![tactic(auto)]
+
 ghost use Rattle.std.specs.Prelude.{◌≡◌, ◌≤◌};
 ghost use Rattle.settle.specs.Test.{count};
 ghost use Rattle.settle.specs.Finite.{pairs};

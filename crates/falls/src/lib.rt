@@ -1,4 +1,6 @@
 // The rounds of simulation, on words: each looks only at the rows that the last one made smaller.
+#![tactic(auto)]
+
 ghost use Rattle.std.specs.Prelude.{◌+◌, ◌*◌, ◌≤◌, length};
 ghost use Rattle.chart.specs.Reading.{chart_in};
 ghost use Rattle.steps.specs.Table.{ReadAs, Blank};

@@ -1,4 +1,6 @@
 // An answer whose bytes go to a lent buffer.
+#![tactic(auto)]
+
 ghost use Rattle.lent.specs.Lent.{writes, LentPromise};
 
 use refusal::Refusal;

@@ -1,5 +1,7 @@
 // The marks of all pairs of a chart's states (strong bisimulation): 0 where two states are equal, else the smallest depth of a formula that tells
 // them apart.
+#![tactic(auto)]
+
 ghost use Rattle.marks.specs.Promise.{MarksPromise};
 
 use chart::ChartRead;

@@ -1,5 +1,7 @@
 // The thin part of the program: a file's bytes are read, the report on them is made by proved code, and it is written once. No contract can say
 // what is read or written: what the reads put into the buffer, and in which pieces, is run from outside.
+#![tactic(auto)]
+
 ghost use Rattle.std.specs.Prelude.{length};
 ghost use Rattle.printer.specs.Filled.{KeptBefore, Within};
 

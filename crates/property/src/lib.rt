@@ -1,4 +1,6 @@
 // Which states satisfy a property sheet: the word, how many they are, and the rounds.
+#![tactic(auto)]
+
 ghost use Rattle.property.specs.Promise.{PropertyPromise};
 
 use chart::ChartRead;

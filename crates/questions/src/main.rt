@@ -1,4 +1,6 @@
 // Document 01's boards and edges on the questions, and worked examples of the source documents: what is printed is held to the file stdout.
+#![tactic(auto)]
+
 use both_solutions::BothAnswer;
 use equal::EqualAnswer;
 use lent::LentAnswer;

@@ -1,4 +1,6 @@
 // Where the steps of each state stand among the sorted triples.
+#![tactic(auto)]
+
 ghost use Rattle.std.specs.Prelude.{◌≡◌, ◌+◌, ◌*◌, ◌≤◌, length, get_or};
 ghost use Rattle.ranges.specs.Sources.{Stands, Past, Sorted};
 

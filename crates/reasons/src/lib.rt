@@ -1,4 +1,6 @@
 // Showing why: the list that tells each two unequal states apart, a line for each of them in both orders.
+#![tactic(auto)]
+
 ghost use Rattle.std.specs.Prelude.{◌≡◌, ℕ, ◌-◌, ◌*◌, ◌≤◌, ◌<◌, length, get_or};
 ghost use Rattle.chart.specs.Reading.{steps_at};
 ghost use Rattle.ranges.specs.Sources.{Stands, Sorted, steps_by};

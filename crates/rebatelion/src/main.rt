@@ -1,4 +1,6 @@
 // Prints the marks of the chart in model.bin, or in the file that its one argument names.
+#![tactic(auto)]
+
 fn main() {
     if os::arg_count() <= 1 {
         printer::run(b"model.bin");

@@ -1,4 +1,6 @@
 // A refusal of documents 01 and 02: the input at fault, the number, the place, and the byte within a triple.
+#![tactic(auto)]
+
 ghost use Rattle.std.specs.Prelude.{◌≡◌};
 ghost use Rattle.refusal.specs.Refusal.{input_number, chart_refusal, sheet_refusal, lent_refusal, of_second};
 

@@ -1,5 +1,7 @@
 // A relation on a chart's states, one word a row: the layer below marks, simulation and the equal pairs, whose functions ask what an accepted chart
 // gives; and the answer that goes with a matrix.
+#![tactic(auto)]
+
 use refusal::Refusal;
 
 pub mod rows;

@@ -1,4 +1,6 @@
 // The text that the program prints for a chart's bytes.
+#![tactic(auto)]
+
 ghost use Rattle.std.specs.Prelude.{◌≡◌, [], ◌∷◌, ◌++◌, ◌+◌, ◌-◌, ◌*◌, ◌≤◌, ◌<◌, length};
 ghost use Rattle.relation.specs.Promise.{byte_at};
 ghost use Rattle.text.specs.Text.{line, placed};

@@ -1,4 +1,6 @@
 // What the program prints for several files, held to the file stdout.
+#![tactic(auto)]
+
 use libc::STDOUT_FILENO;
 
 fn show(title: &[u8], path: &[u8]) {

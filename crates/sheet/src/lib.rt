@@ -1,4 +1,6 @@
 // Reading a property sheet: each byte judged as read, the first fault refused.
+#![tactic(auto)]
+
 ghost use Rattle.std.specs.Prelude.{◌+◌, ◌*◌, ◌≤◌, ◌<◌, ◌≡◌, true, ◌⊎◌, ◌↔◌, length, take};
 ghost use Rattle.refusal.specs.Refusal.{sheet_refusal};
 ghost use Rattle.sheet.specs.Reading.{wrong, parse, packed, read_nodes, read_sheet, sheet_read, AcceptedExactly};

@@ -1,4 +1,6 @@
 // The sheet of a short form: document 01's table of four, with name 3 by T-05 and the kinds by T-06, for F without variable and a name.
+#![tactic(auto)]
+
 ghost use Rattle.std.specs.Prelude.{◌≡◌, false, ◌∷◌, ◌++◌, ℕ, ◌+◌, ◌≤◌, length, drop, eqb, ltb};
 ghost use Rattle.settle.specs.Test.{pick};
 ghost use Rattle.sheet.specs.Formula.{Formula, nodes};

@@ -1,4 +1,6 @@
 // Two charts side by side, written out as the one chart that they are then; its marks are worked out as those of any chart.
+#![tactic(auto)]
+
 ghost use Rattle.std.specs.Prelude.{◌≡◌, ◌+◌, ◌*◌, ◌≤◌, ◌<◌, length};
 ghost use Rattle.chart.specs.Reading.{read_chart, bytes_at};
 ghost use Rattle.chart.specs.declared.ChartRead.TheVariants as Read;

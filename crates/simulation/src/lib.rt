@@ -1,4 +1,6 @@
 // The largest simulation of a chart's states: 1 at (p, q) where q simulates p, else 0.
+#![tactic(auto)]
+
 ghost use Rattle.std.specs.Prelude.{◌≡◌, ◌+◌, ◌*◌, ◌≤◌, length};
 ghost use Rattle.simulation.specs.Promise.{SimulationPromise};
 ghost use Rattle.simulation.specs.Working.{RowPut, CellsPut};

@@ -1,4 +1,6 @@
 // The rounds of a sheet's formula, on words: from the empty set or from all states, until one changes nothing.
+#![tactic(auto)]
+
 ghost use Rattle.std.specs.Prelude.{◌≡◌, ◌≤◌, ◌<◌, ◌^◌, length};
 ghost use Rattle.sheet.specs.Reading.{parse};
 ghost use Rattle.words.specs.Words.{word_of};

@@ -1,1 +1,2 @@
 // The starred boards of document 01, as examples of the definitions.
+#![tactic(auto)]

@@ -1,5 +1,7 @@
 // Text in a lent buffer. Each `put` function writes at a place and answers the place after; where the
 // text does not fit, it writes nothing and answers the place that it was given.
+#![tactic(auto)]
+
 ghost use Rattle.std.specs.Prelude.{◌≡◌, [], ◌∷◌, ◌++◌, ◌+◌, ◌≤◌, length, leb};
 ghost use Rattle.text.specs.Text.{decimal, line, placed, PutPromise};
 

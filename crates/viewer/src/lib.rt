@@ -1,5 +1,7 @@
 // The questions for the C viewer, on byte slices and numbers. Each call answers 0, or the refusal as number | input << 8 | place << 16
 // | byte << 48; the lent numbers and bytes are written only where it answers 0.
+#![tactic(auto)]
+
 ghost use Rattle.std.specs.Prelude.{◌≡◌, ◌≤◌};
 ghost use Rattle.calls.specs.Packing.{packed};
 ghost use Rattle.calls.specs.Shown.{lent, solved_in, BothShown, CheckShown, CompareShown, EqualPairsShown, EqualRowsShown, MarksShown, PropertyShown, ReasonsShown, ShortFormShown, SimulationShown};

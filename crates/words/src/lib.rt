@@ -1,4 +1,6 @@
 // Sets of states as words: bit s is set where state s is in the set.
+#![tactic(auto)]
+
 ghost use Rattle.std.specs.Prelude.{◌≡◌};
 ghost use Rattle.std.specs.Int.Bits.{bit_or, bit_and};
 ghost use Rattle.words.specs.Words.{member, With, All, Size};
