@@ -9,7 +9,7 @@ use sheet::SheetRead;
 use solve::{PropertyAnswer, Solved};
 
 // Each with its word, its count and its rounds.
-#[derive(Drop)]
+#[derive(Clone, Copy)]
 pub struct Solutions {
     pub least: Solved,
     pub greatest: Solved,

@@ -7,7 +7,7 @@ ghost use Rattle.chart.specs.Reading.{step_at, code_order, judge_codes, judge_by
 use refusal::Refusal;
 
 // The counts n, m and t of an accepted chart: the rest of it stays in the bytes.
-#[derive(Drop)]
+#[derive(Clone, Copy)]
 pub struct Shape {
     pub n: usize,
     pub m: usize,

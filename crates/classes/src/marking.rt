@@ -62,7 +62,7 @@ fn shared_bit(row: u64, p: usize) -> u64
 }
 
 // What a round left to do: the lowest states of the classes that it made, and the states that share theirs.
-#[derive(Drop)]
+#[derive(Clone, Copy)]
 pub struct Left {
     pub made: u64,
     pub shared: u64,

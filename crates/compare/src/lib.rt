@@ -16,7 +16,7 @@ use relation::MatrixAnswer;
 use side_by_side::Joining;
 
 // The length of the list in the lent buffer, and the rounds of the two charts side by side.
-#[derive(Drop)]
+#[derive(Clone, Copy)]
 pub struct Comparison {
     pub written: usize,
     pub rounds: usize,

@@ -4,7 +4,7 @@
 ghost use Rattle.std.specs.Prelude.{◌≡◌};
 ghost use Rattle.refusal.specs.Refusal.{input_number, chart_refusal, sheet_refusal, lent_refusal, of_second};
 
-#[derive(Drop)]
+#[derive(Clone, Copy)]
 pub enum Input {
     Chart,
     Sheet,
@@ -12,7 +12,7 @@ pub enum Input {
     SecondChart,
 }
 
-#[derive(Drop)]
+#[derive(Clone, Copy)]
 pub struct Refusal {
     pub input: Input,
     pub number: u8,

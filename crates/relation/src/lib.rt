@@ -7,14 +7,14 @@ use refusal::Refusal;
 pub mod rows;
 
 // The rows of the relation where the rounds have settled, and the rounds.
-#[derive(Drop)]
+#[derive(Clone, Copy)]
 pub struct Settled {
     pub rows: [u64; 64],
     pub rounds: usize,
 }
 
 // What is said of the matrix in a lent buffer: how many states it is of, and the rounds that made it.
-#[derive(Drop)]
+#[derive(Clone, Copy)]
 pub struct Matrix {
     pub states: usize,
     pub rounds: usize,

@@ -8,7 +8,7 @@ ghost use Rattle.sheet.specs.Reading.{wrong, parse, packed, read_nodes, read_she
 use refusal::Refusal;
 
 // The kind of an accepted sheet and how many nodes its formula has: the nodes stand from byte 3 on.
-#[derive(Drop)]
+#[derive(Clone, Copy)]
 pub struct Outline {
     pub kind: u8,
     pub nodes: usize,

@@ -12,7 +12,7 @@ use chart::{ChartRead, Shape};
 use refusal::Refusal;
 
 // The length of the chart that was written, and how many states the two charts have.
-#[derive(Drop)]
+#[derive(Clone, Copy)]
 pub struct Joined {
     pub length: usize,
     pub first: usize,

@@ -12,7 +12,7 @@ use chart::Shape;
 use refusal::Refusal;
 
 // Bit s of the word is set where state s satisfies; the number of such states; the rounds.
-#[derive(Drop)]
+#[derive(Clone, Copy)]
 pub struct Solved {
     pub word: u64,
     pub count: u32,

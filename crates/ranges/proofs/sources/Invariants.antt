@@ -1,0 +1,12 @@
+use mathlib.Core.Path.{◌≡◌, refl}
+use Prim.Native.Nat.{◌-◌, ◌≤◌}
+use lib.ListN.{length, length-set}
+use Rattle.ranges.specs.Sources.{Sources, Stands}
+use Rattle.ranges.proofs.Counting.{sources_none, sources_more, sources_all, sorted_by}
+use Rattle.ranges.proofs.sources.Given as goal
+
+abbrev pub invariant-loop-s : goal.invariant-loop-s
+invariant-loop-s l = (l.s ≤ l.n) × (length l.first ≡ 65) × Sources l.chart l.at l.t l.s l.first
+
+abbrev pub decreases-loop-s : goal.decreases-loop-s
+decreases-loop-s l = l.n - l.s
