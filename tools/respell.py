@@ -14,7 +14,7 @@ TOKEN = r"[A-Za-zℕ][A-Za-z0-9_'ℕ₀-₉⁺-]*"
 EDGE = r"[A-Za-z0-9_'ℕ₀-₉⁺-]"
 # Names that would fall together with another of the same file: (crate, old name) or old name.
 BY_HAND = {"atRest": "resting_bytes", "getD": "get_or"}
-IN_CRATE = {("reason", "all_true"): "all_true_lem"}
+IN_CRATE = {("reason", "all_true"): "all_true_lem", ("evaluate", "joined_word"): "joined_word_lem"}
 # Names that another may share: a label of a clause, or a function of src/ that is not in scope where the law is cited.
 # The toolchain's own, which a crate names too.
 LIBRARY = {"length-append"}

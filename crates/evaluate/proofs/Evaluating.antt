@@ -30,9 +30,9 @@ module _ (into : List ℕ) (n set : ℕ) where
       go false true = refl
       go false false = refl
 
-  joined_word : (node : ℕ) (f g : Formula) → word (two_of node f g) ≡ joined_word node (word f) (word g)
+  joined_word_lem : (node : ℕ) (f g : Formula) → word (two_of node f g) ≡ joined_word node (word f) (word g)
   unfolding table_word
-  joined_word node f g = go (eqb node 3)
+  joined_word_lem node f g = go (eqb node 3)
     where
       go : (x : Bool) → word (pick x (and f g) (or f g)) ≡ pick x (bit_and (word f) (word g)) (bit_or (word f) (word g))
       go true = refl
@@ -65,7 +65,7 @@ module _ (into : List ℕ) (n set : ℕ) where
   one_value (wrong r) node a w = absurd w
 
   last_value : (u : Parsed) (node : ℕ) (f : Formula) → WasRead u → value (on_parsed u (λ g after rest. parsed (two_of node f g) after rest)) ≡ joined_word node (word f) (value u)
-  last_value (parsed g at left) node f w = joined_word node f g
+  last_value (parsed g at left) node f w = joined_word_lem node f g
   last_value (wrong r) node f w = absurd w
 
 -- ---- where the reading goes on

@@ -10,8 +10,7 @@ copy-requires c = leb-true _ _ (sym c.has_room.ensures ∙ c.if-has_room.true)
 pub returns-then-has_room : goal.returns-then-has_room
 returns-then-has_room c =
     let a = c.args in
-    let k = c.copy in
-    put_done a.buffer.now a.at a.text.now (sym c.has_room.ensures ∙ c.if-has_room.true) k.ensures
+    put_done a.buffer.now a.at a.text.now (sym c.has_room.ensures ∙ c.if-has_room.true) (c.copy.ensures.value, c.copy.ensures.buffer_after)
 
 pub returns : goal.returns
 returns c =

@@ -24,5 +24,5 @@ overflow_add-result c =
 pub returns : goal.returns
 returns c =
     let a = c.args in
-    let k = c.put_digits-after in
-    let w : length (decimal a.x ++ (a.byte ∷ [])) ≡ length (decimal a.x) + 1 = length_followed a.x a.byte in record { value = omega (arith, w, k.ensures.0); buffer_after = rw (k.ensures.1, k.ensures.0) (placed_more a.buffer.now a.at (decimal a.x) a.byte (omega (arith, c.requires))) }
+    let w : length (decimal a.x ++ (a.byte ∷ [])) ≡ length (decimal a.x) + 1 = length_followed a.x a.byte in
+    record { value = omega (arith, w, c.put_digits-after.ensures.value); buffer_after = rw (c.put_digits-after.ensures.buffer_after, c.put_digits-after.ensures.value) (placed_more a.buffer.now a.at (decimal a.x) a.byte (omega (arith, c.requires))) }

@@ -12,9 +12,7 @@ put_digits-requires c =
 pub returns-then-has_room : goal.returns-then-has_room
 returns-then-has_room c =
     let a = c.args in
-    let h = c.has_room in
-    let w = c.width in
-    put_done a.buffer.now a.at (decimal a.x) (rw w.ensures at (sym h.ensures ∙ c.if-has_room.true)) c.put_digits.ensures
+    put_done a.buffer.now a.at (decimal a.x) (rw c.width.ensures at (sym c.has_room.ensures ∙ c.if-has_room.true)) (c.put_digits.ensures.value, c.put_digits.ensures.buffer_after)
 
 pub returns : goal.returns
 returns c =
