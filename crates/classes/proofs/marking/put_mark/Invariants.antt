@@ -1,0 +1,18 @@
+use Prim.Native.Nat.{ℕ, ◌+◌, ◌^◌, ◌<◌}
+use mathlib.Core.Path.{◌≡◌, refl, sym, ◌∙◌}
+use mathlib.Core.Bool.{So}
+use lib.Count.{count_trailing_zeros}
+use lib.ListN.{length, length-set}
+use Rattle.words.specs.Words.{member}
+use Rattle.steps.proofs.Bits.{lowest_lt, lowest_in, rest_in, rest_less}
+use Rattle.classes.proofs.Putting.{marked, marked_none, marked_walked}
+use Rattle.classes.proofs.marking.put_mark.Given as goal
+
+-- what is marked or still to come is the answer
+abbrev pub invariant-loop-left : goal.invariant-loop-left
+invariant-loop-left l =
+    (l.left < 2 ^ 64) × (length l.buffer ≡ length l.initial.buffer) × ((q : ℕ) → So (member l.left q) → l.start + q < length l.buffer)
+    × ((y : ℕ) → marked l.start l.left l.mark l.buffer y ≡ marked l.start l.fell l.mark l.initial.buffer y)
+
+abbrev pub decreases-loop-left : goal.decreases-loop-left
+decreases-loop-left l = l.left

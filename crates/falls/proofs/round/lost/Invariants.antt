@@ -1,0 +1,20 @@
+use Prim.Native.Nat.{ℕ, ◌+◌, ◌^◌, ◌<◌}
+use mathlib.Core.Path.{◌≡◌, sym, ◌∙◌}
+use mathlib.Core.Bool.{So}
+use lib.ListN.{length, get_or}
+use Rattle.settle.specs.Test.{both, either}
+use Rattle.words.specs.Words.{member}
+use Rattle.steps.proofs.Bits.{lowest_lt, lowest_in, rest_in, rest_less}
+use Rattle.steps.proofs.Walked.{bits_none, bits_walked}
+use Rattle.falls.specs.Round.{apart}
+use Rattle.falls.proofs.Walks.{none_yet}
+use Rattle.falls.proofs.round.lost.Given as goal
+
+-- what is found lost or still to come is the answer
+abbrev pub invariant-loop-left : goal.invariant-loop-left
+invariant-loop-left l =
+    (l.left < 2 ^ 64) × ((q : ℕ) → So (member l.left q) → l.base + q < length l.out)
+    × ((q : ℕ) → either (member l.gone q) (both (member l.left q) (apart (get_or l.out (l.base + q) 0) l.row)) ≡ both (member l.candidates q) (apart (get_or l.out (l.base + q) 0) l.row))
+
+abbrev pub decreases-loop-left : goal.decreases-loop-left
+decreases-loop-left l = l.left

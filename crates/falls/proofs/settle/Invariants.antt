@@ -1,0 +1,19 @@
+use Prim.Native.Nat.{ℕ, ◌-◌}
+use mathlib.Core.Path.{◌≡◌, ap, ◌∙◌}
+use mathlib.Core.List.{List}
+use lib.ListN.{length}
+use Rattle.chart.specs.Chart.{Step}
+use Rattle.chart.proofs.Accepted.{accepted, each_step}
+use Rattle.words.specs.Words.{member}
+use Rattle.steps.proofs.Stepping.{sized}
+use Rattle.falls.proofs.Walks.{noted_among}
+use Rattle.falls.proofs.Steps.{Tables, chart_tables}
+use Rattle.falls.proofs.Rounding.{Rounding, rounding_first, rounding_more, rounding_few, rounding_done}
+use Rattle.falls.proofs.settle.Given as goal
+
+abbrev pub invariant-loop-changed : goal.invariant-loop-changed
+invariant-loop-changed l =
+    (length l.near ≡ 64) × (length l.fell ≡ 64) × ((steps : List Step) → Tables l.n l.m steps l.into l.out → Rounding l.n steps l.near l.fell l.changed l.rounds)
+
+abbrev pub decreases-loop-changed : goal.decreases-loop-changed
+decreases-loop-changed l = 4096 - l.rounds

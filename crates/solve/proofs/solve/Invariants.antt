@@ -1,0 +1,24 @@
+use Prim.Native.Nat.{ℕ, ◌-◌}
+use mathlib.Core.Path.{◌≡◌, refl, ◌∙◌}
+use mathlib.Core.List.{List}
+use lib.ListN.{length}
+use Rattle.chart.specs.Reading.{chart_in}
+use Rattle.chart.proofs.Accepted.{accepted, each_step}
+use Rattle.sheet.specs.Reading.{parse}
+use Rattle.words.proofs.Words.{word_small}
+use Rattle.steps.specs.Table.{Table}
+use Rattle.evaluate.specs.Evaluating.{Remembers, SameRows, formula_of}
+use Rattle.solve.specs.Solving.{application, first_set}
+use Rattle.solve.proofs.Solving.{made_remembers, table_application, Rounding, started, one_more, settled_rounds, never_settled}
+use Rattle.solve.proofs.solve.Given as goal
+
+-- the rows stay those of the table that was made
+abbrev pub invariant-loop-next : goal.invariant-loop-next
+invariant-loop-next l =
+    (length l.work ≡ length l.initial.work)
+    × ((made : List ℕ) × Table l.shape.n l.shape.m (chart_in l.chart l.shape).steps made × SameRows l.shape.n l.shape.m made l.work)
+    × Remembers l.shape.n l.shape.m l.sheet l.work
+    × Rounding l.shape.n (application l.chart l.shape l.sheet l.nodes) (first_set l.kind) l.set l.next l.rounds
+
+abbrev pub decreases-loop-next : goal.decreases-loop-next
+decreases-loop-next l = 4096 - l.rounds
