@@ -8,6 +8,7 @@ use Prim.Native.Nat.{ℕ, ◌+◌, ◌*◌, ◌-◌, ◌≤◌, ◌<◌}
 use lib.ListN.{get_or}
 use Rattle.ranges.specs.Sources.{action_at, target_at}
 use Rattle.choice.proofs.all_smaller.Goals as goal
+use Rattle.choice.proofs.all_smaller.Goals.{then-cell-eq0-via-then-cell-eq0, then-cell-eq0-via-else-cell-eq0+then-mark-cell, then-chart-step+else-cell-eq0+else-mark-cell, else-chart-step}
 
 pub loop-i-init : goal.loop-i-init
 loop-i-init c = (search rules, λ j h l. absurd (omega arith))
@@ -29,14 +30,14 @@ returns-then-cell-eq0 c =
     let a = c.args in
     let l = c.loop-i in
     let cell : ℕ = get_or a.matrix.now (a.base + target_at a.chart.now a.at l.i * a.column) 0 in
-    (l.i, l.invariant.0, c.loop-i-test.true, c.if-chart-step.true, λ h. ⊎_elim (λ w. omega (arith, h, w.taken)) (λ w. omega (arith, h, leb-true a.mark cell w.1.taken)) c.if-cell-eq0.branch)
+    (l.i, l.invariant.0, c.loop-i-test.true, c.if-chart-step.true, λ h. elim c.then-cell-eq0.branch [ then-cell-eq0-via-then-cell-eq0 w ↦ omega (arith, h) | then-cell-eq0-via-else-cell-eq0+then-mark-cell w ↦ omega (arith, h) ])
 
 pub loop-i-preserved : goal.loop-i-preserved
 loop-i-preserved c =
     let a = c.args in
     let l = c.loop-i in
     let cell : ℕ = get_or a.matrix.now (a.base + target_at a.chart.now a.at l.i * a.column) 0 in
-    (search rules, below_more _ _ l.invariant.1 (λ b e. ⊎_elim (λ w. omega (arith, w.3.left, leb-false a.mark cell w.4.left)) (λ w. absurd (w.left e)) c.if-chart-step.branch))
+    (search rules, below_more _ _ l.invariant.1 (λ b e. elim c.if-chart-step.branch [ then-chart-step+else-cell-eq0+else-mark-cell w ↦ omega arith | else-chart-step w ↦ absurd (w.if-chart-step.false e) ]))
 
 pub returns : goal.returns
 returns c = λ j l h. c.loop-i.invariant.1 j (omega arith) l

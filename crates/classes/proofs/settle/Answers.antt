@@ -16,7 +16,7 @@ pub clear-requires : goal.clear-requires
 clear-requires c = c.requires.n_in_bounds
 
 pub fill-requires : goal.fill-requires
-fill-requires c = (c.requires.read_as, c.requires.blank)
+fill-requires c = record { read_as = c.requires.read_as; blank = c.requires.blank.0; n_in_bounds = c.requires.blank.1 }
 
 pub all_pairs-near-requires : goal.all_pairs-near-requires
 all_pairs-near-requires c = (accepted _ _ c.requires.read_as).states_few

@@ -14,7 +14,7 @@ use Rattle.falls.proofs.Rounding.{Rounding, rounding_first, rounding_more, round
 use Rattle.falls.proofs.settle.Goals as goal
 
 pub fill-requires : goal.fill-requires
-fill-requires c = (c.requires.read_as, c.requires.blank)
+fill-requires c = record { read_as = c.requires.read_as; blank = c.requires.blank.0; n_in_bounds = c.requires.blank.1 }
 
 pub all_pairs-whole-requires : goal.all_pairs-whole-requires
 all_pairs-whole-requires c = (accepted _ _ c.requires.read_as).states_few
@@ -31,7 +31,7 @@ returns-then-changed-eq0 c =
     rounding_done (rounding_first few (each_step _ _ c.requires.read_as) c.fill.ensures c.all_pairs-whole.ensures c.first_round-near.ensures (noted_among _ _ (λ p. ap (λ (w : ℕ). member w p) (c.all.ensures.0 few)) c.note-changed.ensures.noted)) c.if-changed-eq0.true
 
 pub fill-requires-2 : goal.fill-requires-2
-fill-requires-2 c = (c.requires.read_as, c.requires.blank_2)
+fill-requires-2 c = record { read_as = c.requires.read_as; blank = c.requires.blank_2.0; n_in_bounds = c.requires.blank_2.1 }
 
 pub loop-changed-init : goal.loop-changed-init
 loop-changed-init c =

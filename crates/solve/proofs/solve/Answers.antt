@@ -24,13 +24,14 @@ pub round-next-requires : goal.round-next-requires
 round-next-requires c =
     let a = c.args in
     let made = c.fill.new.into in
-    let size : length made ≡ length a.work.now = c.fill.auto.work in
+    let size : length made ≡ length a.work.now = c.fill.auto.into in
     record { remembers = made_remembers a.chart.now a.shape a.sheet.now a.nodes made c.requires.read_as c.fill.ensures (omega (arith, c.requires.blank.1)); nodes_bound = c.requires.nodes_bound; set_bound = word_small _ _ _ c.first_set-set.ensures }
 
 pub loop-next-init : goal.loop-next-init
 loop-next-init c =
     let a = c.args in
-    let made = c.fill.new.into in (
+    let made = c.fill.new.into in
+    (
       refl,
       (made, c.fill.ensures, c.round-next.ensures.kept.0),
       c.round-next.ensures.kept.1,
@@ -40,7 +41,7 @@ loop-next-init c =
     )
 
 pub shape_of-work-then-rounds-eq4096 : goal.shape_of-work-then-rounds-eq4096
-shape_of-work-then-rounds-eq4096 c = c.loop-next.invariant.0 ∙ c.round-next.auto.work ∙ c.fill.auto.work
+shape_of-work-then-rounds-eq4096 c = c.loop-next.invariant.0 ∙ c.round-next.auto.work ∙ c.fill.auto.into
 
 pub returns-then-rounds-eq4096 : goal.returns-then-rounds-eq4096
 returns-then-rounds-eq4096 c = (c.of_lent.ensures, never_settled c.loop-next.invariant.3 c.loop-next-test.true c.if-rounds-eq4096.true)
@@ -64,7 +65,7 @@ loop-next-preserved c =
     )
 
 pub shape_of-work : goal.shape_of-work
-shape_of-work c = c.loop-next.invariant.0 ∙ c.round-next.auto.work ∙ c.fill.auto.work
+shape_of-work c = c.loop-next.invariant.0 ∙ c.round-next.auto.work ∙ c.fill.auto.into
 
 pub returns : goal.returns
 returns c = record {

@@ -35,7 +35,7 @@ loop-left-preserved c =
       c.split_by.ensures.rows_len_2,
       c.split_by.ensures.keeps.within,
       keeps_sharing l.invariant.3 c.split_by.ensures.keeps,
-      λ p q. coming_walked (λ x. undivided a.into.now a.n a.m (get_or a.t1 x 0)) _ _ l.left (search rules) l.invariant.0 c.split_by.ensures.keeps p q ∙ l.invariant.4 p q,
+      λ p q. coming_walked (λ x. undivided a.into.now a.n a.m (get_or a.near x 0)) _ _ l.left (search rules) l.invariant.0 c.split_by.ensures.keeps p q ∙ l.invariant.4 p q,
     )
 
 pub returns : goal.returns
@@ -43,4 +43,4 @@ returns c =
     let a = c.args in
     let l = c.loop-left in
     let none : l.left ≡ 0 = search rules in
-    record { within = l.invariant.2; kept = λ p q. sym (rw none (coming_none (λ x. undivided a.into.now a.n a.m (get_or a.t1 x 0)) l.next p q)) ∙ l.invariant.4 p q }
+    record { within = l.invariant.2; kept = λ p q. sym (rw none (coming_none (λ x. undivided a.into.now a.n a.m (get_or a.near x 0)) l.next p q)) ∙ l.invariant.4 p q }

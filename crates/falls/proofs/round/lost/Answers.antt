@@ -39,7 +39,7 @@ loop-left-preserved c =
     let l = c.loop-left in (
       omega (arith, rest_less l.left (search rules), l.invariant.0),
       λ q i. l.invariant.1 q (rest_in 64 l.left (search rules) l.invariant.0 q i),
-      λ q. bits_walked (λ x. apart (get_or a.out.now (a.base + x) 0) a.row) l.left l.gone _ q (search rules) l.invariant.0 c.one-Apart.ensures ∙ l.invariant.2 q,
+      λ q. bits_walked (λ x. apart (get_or a.out.now (a.base + x) 0) a.row) l.left l.gone _ q (search rules) l.invariant.0 c.one_apart-gone.ensures ∙ l.invariant.2 q,
     )
 
 pub returns : goal.returns

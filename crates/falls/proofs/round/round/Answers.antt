@@ -14,9 +14,6 @@ use Rattle.falls.proofs.round.round.Goals as goal
 pub loop-left-init : goal.loop-left-init
 loop-left-init c = (search rules, search rules, c.requires.n_bound.1, c.requires.fallen, λ r k. k)
 
-pub UNKNOWN-overflow-cast-x : goal.UNKNOWN-overflow-cast-x
-UNKNOWN-overflow-cast-x c = let l = c.loop-left in record { fits = omega (arith, lowest_lt 64 l.left (search rules) l.invariant.0) }
-
 pub offset_bounds-near-x : goal.offset_bounds-near-x
 offset_bounds-near-x c = let l = c.loop-left in record { fits = omega (arith, lowest_lt 64 l.left (search rules) l.invariant.0) }
 
@@ -40,7 +37,8 @@ loop-left-smaller c = rest_less c.loop-left.left (search rules)
 
 pub loop-left-preserved : goal.loop-left-preserved
 loop-left-preserved c =
-    let l = c.loop-left in (
+    let l = c.loop-left in
+    (
       omega (arith, rest_less l.left (search rules), l.invariant.0),
       c.strike_into.ensures.next_len,
       c.strike_into.ensures.keeps.within,
