@@ -1,0 +1,22 @@
+use borrow.Author.Rules.{rules}
+use borrow.Author.Tests.{eqb-true, eqb-false}
+use borrow.Author.Count.{below_more}
+use native.Mathlib.Omega.{arith}
+use mathlib.Core.Path.{◌≡◌}
+use mathlib.Core.Logic.{⊎_elim}
+use Prim.Native.Nat.{ℕ, ◌-◌, ◌≤◌, ◌<◌}
+use Rattle.ranges.specs.Sources.{action_at, target_at}
+use Rattle.check_reasons.proofs.some_leads.Goals as goal
+
+pub loop-i-init : goal.loop-i-init
+loop-i-init c = (search rules, λ j h l. absurd (omega arith))
+
+pub returns-then-chart-step-2 : goal.returns-then-chart-step-2
+returns-then-chart-step-2 c =
+    (c.loop-i.i, c.loop-i.invariant.0, c.loop-i-test.true, c.if-chart-step.true, eqb-true _ _ c.if-chart-step-2.true)
+
+pub loop-i-preserved : goal.loop-i-preserved
+loop-i-preserved c = (search rules, below_more _ _ c.loop-i.invariant.1 (λ l e s. ⊎_elim (λ w. eqb-false _ _ w.2.left s) (λ w. w.left e) c.if-chart-step.branch))
+
+pub returns : goal.returns
+returns c = λ s. c.loop-i.invariant.1 s.0 (omega (arith, s.2)) s.1 s.3 s.4

@@ -1,0 +1,14 @@
+use borrow.Author.Tests.{eq-eqb, ne_eqb}
+use Rattle.short_form.proofs.by_name.Goals as goal
+
+pub returns-then-name-eq0 : goal.returns-then-name-eq0
+returns-then-name-eq0 c = rw (eq-eqb _ _ c.if-name-eq0.true)
+
+pub returns-then-name-eq1 : goal.returns-then-name-eq1
+returns-then-name-eq1 c = rw (ne_eqb _ _ c.if-name-eq0.false, eq-eqb _ _ c.if-name-eq1.true)
+
+pub returns-then-name-eq2 : goal.returns-then-name-eq2
+returns-then-name-eq2 c = rw (ne_eqb _ _ c.if-name-eq0.false, ne_eqb _ _ c.if-name-eq1.false, eq-eqb _ _ c.if-name-eq2.true)
+
+pub returns : goal.returns
+returns c = rw (ne_eqb _ _ c.if-name-eq0.false, ne_eqb _ _ c.if-name-eq1.false, ne_eqb _ _ c.if-name-eq2.false)

@@ -1,0 +1,5 @@
+use borrow.Author.Rules.{rules}
+use Rattle.short_form.proofs.is_labelled.Goals as goal
+
+pub returns : goal.returns
+returns c = rw c.if-action.false

@@ -1,0 +1,5 @@
+use borrow.Author.Rules.{rules}
+use Rattle.short_form.proofs.kind_written.Goals as goal
+
+pub returns : goal.returns
+returns c = c.by_name.ensures

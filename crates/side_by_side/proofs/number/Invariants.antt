@@ -1,0 +1,13 @@
+use Prim.Native.Nat.{◌-◌, ◌≤◌}
+use mathlib.Core.Path.{◌≡◌}
+use mathlib.Core.Logic.{⊎_elim}
+use lib.ListN.{length, length-set}
+use Rattle.side_by_side.proofs.Table.{Numbering, numbering_none, numbering_few, numbering_more, numbering_skip, numbering_all}
+use Rattle.side_by_side.proofs.number.Given as goal
+
+abbrev pub invariant-loop-code : goal.invariant-loop-code
+invariant-loop-code l =
+    (l.code ≤ 256) × (length l.table ≡ 256) × (length l.codes ≡ 256) × Numbering l.initial.table l.table l.codes l.count l.code
+
+abbrev pub decreases-loop-code : goal.decreases-loop-code
+decreases-loop-code l = 256 - l.code
