@@ -14,11 +14,6 @@ use Rattle.short_form.proofs.Pieces.{form_nodes, form_length, form_encoded, oper
 use Rattle.short_form.proofs.Promise.{form_variable, form_unnamed, form_large, form_made}
 use Rattle.short_form.proofs.of_formula.Goals as goal
 
--- past the first test F has no variable
-free : (c : tie.Else1) (kind : ℕ) (f : Formula) → c.args.sheet.now ≡ encode kind f → variable_free f ≡ true
-free c kind f e =
-    sheet_free c.args.sheet.now kind f e c.first_variable-variable.result (c.first_variable-variable.ensures kind f e) c.if-variable-sheet.false
-
 pub returns-then-variable-sheet : goal.returns-then-variable-sheet
 returns-then-variable-sheet c kind f e n =
     let a = c.args in
@@ -28,7 +23,7 @@ returns-then-variable-sheet c kind f e n =
 pub returns-then-name-gt3 : goal.returns-then-name-gt3
 returns-then-name-gt3 c kind f e n =
     let a = c.args in
-    promise_refused a.buffer.now (ap outcome_of (form_unnamed a.name f (free c kind f e) c.if-name-gt3.true)) c.of_lent.ensures
+    promise_refused a.buffer.now (ap outcome_of (form_unnamed a.name f (sheet_free a.sheet.now kind f e c.first_variable-variable.result (c.first_variable-variable.ensures kind f e) c.if-variable-sheet.false) c.if-name-gt3.true)) c.of_lent.ensures
 
 pub overflow_add-total : goal.overflow_add-total
 overflow_add-total c =
@@ -38,7 +33,7 @@ pub returns-then-total-gt200 : goal.returns-then-total-gt200
 returns-then-total-gt200 c kind f e n =
     let a = c.args in
     let large : 200 < nodes (short_form a.name f) = omega (arith, c.more_nodes.ensures, form_nodes a.name f) in
-    promise_refused a.buffer.now (ap outcome_of (form_large a.name f (free c kind f e) c.if-name-gt3.false large)) c.of_sheet-then-total-gt200.ensures
+    promise_refused a.buffer.now (ap outcome_of (form_large a.name f (sheet_free a.sheet.now kind f e c.first_variable-variable.result (c.first_variable-variable.ensures kind f e) c.if-variable-sheet.false) c.if-name-gt3.false large)) c.of_sheet-then-total-gt200.ensures
 
 pub overflow_add-size-2 : goal.overflow_add-size-2
 overflow_add-size-2 c =
@@ -47,7 +42,7 @@ overflow_add-size-2 c =
 pub returns-then-buffer-size : goal.returns-then-buffer-size
 returns-then-buffer-size c kind f e n =
     let a = c.args in
-    promise_short a.buffer.now (ap outcome_of (form_made a.name f (free c kind f e) c.if-name-gt3.false (omega (arith, c.more_nodes.ensures, form_nodes a.name f))))
+    promise_short a.buffer.now (ap outcome_of (form_made a.name f (sheet_free a.sheet.now kind f e c.first_variable-variable.result (c.first_variable-variable.ensures kind f e) c.if-variable-sheet.false) c.if-name-gt3.false (omega (arith, c.more_nodes.ensures, form_nodes a.name f))))
     (omega (arith, c.operand_size.ensures, form_length a.sheet.now kind f e a.name)) c.of_lent-then-buffer-size.ensures
 
 pub returns : goal.returns
@@ -55,5 +50,5 @@ returns c kind f e n =
     let a = c.args in
     let total : a.count + c.more_nodes.result ≡ nodes (short_form a.name f) = omega (arith, c.more_nodes.ensures, form_nodes a.name f) in
     let size : length a.sheet.now + 1 + c.operand_size.result ≡ length (encode (kind_written a.name) (short_form a.name f)) = omega (arith, c.operand_size.ensures, form_length a.sheet.now kind f e a.name) in
-    promise_written a.buffer.now (ap outcome_of (form_made a.name f (free c kind f e) c.if-name-gt3.false (omega (arith, total)))) (omega (arith, size)) size
+    promise_written a.buffer.now (ap outcome_of (form_made a.name f (sheet_free a.sheet.now kind f e c.first_variable-variable.result (c.first_variable-variable.ensures kind f e) c.if-variable-sheet.false) c.if-name-gt3.false (omega (arith, total)))) (omega (arith, size)) size
     (rw (form_encoded a.sheet.now kind f e a.name _ total) at c.put_form.ensures)
