@@ -9,17 +9,18 @@ use Prim.Native.Nat.{ℕ, ◌-◌, ◌≤◌, ◌<◌}
 use Rattle.words.specs.Words.{member}
 use Rattle.ranges.specs.Sources.{action_at, target_at}
 use Rattle.check_reasons.proofs.all_after.Goals as goal
+use Rattle.check_reasons.proofs.all_after.Goals.{else-chart-step-via-then-chart-step+else-not-has, else-chart-step-via-else-chart-step}
 
 pub loop-i-init : goal.loop-i-init
 loop-i-init c = (search rules, λ j h l. absurd (omega arith))
 
 pub returns-then-not-has : goal.returns-then-not-has
 returns-then-not-has c =
-    λ f. false≢true (sym (not-true _ c.if-not-has.true) ∙ c.has.ensures ∙ f c.loop-i.i c.loop-i.invariant.0 c.loop-i-test.true c.if-chart-step.true)
+    λ f. false≢true (sym c.if-not-has.true ∙ c.has.ensures ∙ f c.loop-i.i c.loop-i.invariant.0 c.loop-i-test.true c.if-chart-step.true)
 
 pub loop-i-preserved : goal.loop-i-preserved
 loop-i-preserved c =
-    (search rules, below_more _ _ c.loop-i.invariant.1 (λ l e. ⊎_elim (λ w. sym w.2.ensures ∙ not-false _ w.3.left) (λ w. absurd (w.left e)) c.if-chart-step.branch))
+    (search rules, below_more _ _ c.loop-i.invariant.1 (λ l e. elim c.else-chart-step.branch [ else-chart-step-via-then-chart-step+else-not-has w ↦ sym w.has.ensures ∙ w.if-not-has.false | else-chart-step-via-else-chart-step w ↦ absurd (w.if-chart-step.false e) ]))
 
 pub returns : goal.returns
 returns c = λ j l h. c.loop-i.invariant.1 j (omega arith) l

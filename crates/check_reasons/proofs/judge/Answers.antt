@@ -1,3 +1,5 @@
+use mathlib.Core.Path.{ap}
+use mathlib.Core.Bool.{not}
 use borrow.Author.Rules.{rules}
 use native.Mathlib.Omega.{arith}
 use Prim.Native.Nat.{◌*◌, ◌-◌}
@@ -18,32 +20,32 @@ passes-requires c = record { sorted = c.sources-first.ensures.sorted; place_in_b
 
 pub returns-then-not-passes : goal.returns-then-not-passes
 returns-then-not-passes c =
-    let fails = whether_not c.passes.result c.if-not-passes.true c.passes.ensures in
+    let fails = whether_not c.passes.result (ap not c.if-not-passes.true) c.passes.ensures in
     (c.loop-i.i, c.of_sheet.ensures, rw (← c.sources-first.ensures.n_value) (line_bad _ _ _ _ c.sources-first.ensures.sorted _ _ _ c.loop-i.invariant (omega (arith, c.loop-i-test.true)) fails))
 
 pub overflow_cast-p : goal.overflow_cast-p
 overflow_cast-p c =
-    omega (arith, (whether_so c.passes.result c.if-not-passes.false c.passes.ensures).p_in, c.requires.few)
+    omega (arith, (whether_so c.passes.result (ap not c.if-not-passes.false) c.passes.ensures).p_in, c.requires.few)
 
 pub offset_bounds-rows-p : goal.offset_bounds-rows-p
 offset_bounds-rows-p c =
-    omega (arith, (whether_so c.passes.result c.if-not-passes.false c.passes.ensures).p_in, c.requires.few)
+    omega (arith, (whether_so c.passes.result (ap not c.if-not-passes.false) c.passes.ensures).p_in, c.requires.few)
 
 pub bounds-rows-p : goal.bounds-rows-p
 bounds-rows-p c =
-    omega (arith, (whether_so c.passes.result c.if-not-passes.false c.passes.ensures).p_in, c.requires.few)
+    omega (arith, (whether_so c.passes.result (ap not c.if-not-passes.false) c.passes.ensures).p_in, c.requires.few)
 
 pub offset_bounds-rows-p-in-loop-i : goal.offset_bounds-rows-p-in-loop-i
 offset_bounds-rows-p-in-loop-i c =
-    omega (arith, (whether_so c.passes.result c.if-not-passes.false c.passes.ensures).p_in, c.requires.few)
+    omega (arith, (whether_so c.passes.result (ap not c.if-not-passes.false) c.passes.ensures).p_in, c.requires.few)
 
 pub bounds-rows-p-in-loop-i : goal.bounds-rows-p-in-loop-i
 bounds-rows-p-in-loop-i c =
-    omega (arith, (whether_so c.passes.result c.if-not-passes.false c.passes.ensures).p_in, c.requires.few)
+    omega (arith, (whether_so c.passes.result (ap not c.if-not-passes.false) c.passes.ensures).p_in, c.requires.few)
 
 pub loop-i-preserved : goal.loop-i-preserved
 loop-i-preserved c =
-    line_good _ _ _ _ c.sources-first.ensures.sorted _ _ _ c.loop-i.invariant (omega (arith, c.loop-i-test.true)) (whether_so c.passes.result c.if-not-passes.false c.passes.ensures) _ c.with.ensures
+    line_good _ _ _ _ c.sources-first.ensures.sorted _ _ _ c.loop-i.invariant (omega (arith, c.loop-i-test.true)) (whether_so c.passes.result (ap not c.if-not-passes.false) c.passes.ensures) _ c.with.ensures
 
 pub overflow_mul-i : goal.overflow_mul-i
 overflow_mul-i c = omega (arith, c.loop-i.invariant.within)

@@ -18,7 +18,7 @@ overflow_cast-q c = omega (arith, c.type_inv.list (c.args.place + 1))
 pub returns-then-p-n : goal.returns-then-p-n
 returns-then-p-n c =
     let a = c.args in
-    λ w. ⊎_elim (λ v. omega (arith, v.taken, w.p_in)) (λ v. omega (arith, leb-true a.n (get_or a.list.now (a.place + 1) 0) v.1.taken, w.q_in)) c.if-p-n.branch
+    λ w. ⊎_elim (λ v. omega (arith, v, w.p_in)) (λ v. omega (arith, v.1, w.q_in)) c.then-p-n.either
 
 pub bounds-rows-p : goal.bounds-rows-p
 bounds-rows-p c =
@@ -29,18 +29,18 @@ pub returns-then-has : goal.returns-then-has
 returns-then-has c = λ w. w.new (sym c.has.ensures ∙ c.if-has.true)
 
 pub rests_forth-requires : goal.rests_forth-requires
-rests_forth-requires c = record { sorted = c.requires.sorted; p_lt_n = (c.if-p-n.false, leb-false _ _ c.if-q-n.false) }
+rests_forth-requires c = record { sorted = c.requires.sorted; p_lt_n = (c.if-p-n.false, c.if-q-n.false) }
 
 pub returns-then-side-eq0 : goal.returns-then-side-eq0
 returns-then-side-eq0 c =
-    side_passes _ _ _ _ c.if-p-n.false (leb-false _ _ c.if-q-n.false) (λ s. false≢true (sym c.if-has.false ∙ c.has.ensures ∙ s)) 0 c.if-side-eq0.true c.rests_forth.result c.rests_forth.ensures
+    side_passes _ _ _ _ c.if-p-n.false c.if-q-n.false (λ s. false≢true (sym c.if-has.false ∙ c.has.ensures ∙ s)) 0 c.if-side-eq0.true c.rests_forth.result c.rests_forth.ensures
 
 pub rests_back-requires : goal.rests_back-requires
-rests_back-requires c = record { sorted = c.requires.sorted; p_lt_n = (c.if-p-n.false, leb-false _ _ c.if-q-n.false) }
+rests_back-requires c = record { sorted = c.requires.sorted; p_lt_n = (c.if-p-n.false, c.if-q-n.false) }
 
 pub returns-then-side-eq1 : goal.returns-then-side-eq1
 returns-then-side-eq1 c =
-    side_passes _ _ _ _ c.if-p-n.false (leb-false _ _ c.if-q-n.false) (λ s. false≢true (sym c.if-has.false ∙ c.has.ensures ∙ s)) 1 c.if-side-eq1.true c.rests_back.result c.rests_back.ensures
+    side_passes _ _ _ _ c.if-p-n.false c.if-q-n.false (λ s. false≢true (sym c.if-has.false ∙ c.has.ensures ∙ s)) 1 c.if-side-eq1.true c.rests_back.result c.rests_back.ensures
 
 pub returns : goal.returns
 returns c = λ w. other_side _ _ _ _ c.if-side-eq0.false c.if-side-eq1.false w

@@ -1,3 +1,5 @@
+use mathlib.Core.Path.{ap}
+use mathlib.Core.Bool.{not}
 use borrow.Author.Rules.{rules}
 use native.Mathlib.Omega.{arith}
 use Rattle.ranges.proofs.Ranges.{range_end, range_target}
@@ -11,7 +13,7 @@ some_leads-requires c =
 pub returns-then-not-some_leads : goal.returns-then-not-some_leads
 returns-then-not-some_leads c =
     let a = c.args in
-    λ r. whether_not c.some_leads.result c.if-not-some_leads.true c.some_leads.ensures (back_steps a.chart.now a.at a.n a.first.now c.requires.sorted a.rows.now a.p a.q c.requires.p_lt_n.0 c.requires.p_lt_n.1 a.action a.target r)
+    λ r. whether_not c.some_leads.result (ap not c.if-not-some_leads.true) c.some_leads.ensures (back_steps a.chart.now a.at a.n a.first.now c.requires.sorted a.rows.now a.p a.q c.requires.p_lt_n.0 c.requires.p_lt_n.1 a.action a.target r)
 
 pub all_before-requires : goal.all_before-requires
 all_before-requires c = record { high_in_bounds = (range_end _ _ _ _ c.requires.sorted _ c.requires.p_lt_n.0).1; by_index = λ i h. omega (arith, range_target _ _ _ _ c.requires.sorted _ i c.requires.p_lt_n.0 h, c.requires.sorted.triples.few) }
@@ -19,4 +21,4 @@ all_before-requires c = record { high_in_bounds = (range_end _ _ _ _ c.requires.
 pub returns : goal.returns
 returns c =
     let a = c.args in
-    back_rests a.chart.now a.at a.n a.first.now c.requires.sorted a.rows.now a.p a.q c.requires.p_lt_n.0 c.requires.p_lt_n.1 a.action a.target (whether_so c.some_leads.result c.if-not-some_leads.false c.some_leads.ensures) c.all_before.result c.all_before.ensures
+    back_rests a.chart.now a.at a.n a.first.now c.requires.sorted a.rows.now a.p a.q c.requires.p_lt_n.0 c.requires.p_lt_n.1 a.action a.target (whether_so c.some_leads.result (ap not c.if-not-some_leads.false) c.some_leads.ensures) c.all_before.result c.all_before.ensures
