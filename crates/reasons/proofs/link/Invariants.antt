@@ -1,0 +1,12 @@
+use Prim.Native.Nat.{ℕ, ◌+◌, ◌-◌, ◌≤◌, ◌<◌}
+use mathlib.Core.Path.{◌≡◌, sym, ◌∙◌}
+use lib.ListN.{length, get_or, length-set}
+use Rattle.reasons.specs.Linked.{Linked}
+use Rattle.reasons.proofs.Linked.{linked_more}
+use Rattle.reasons.proofs.link.Given as goal
+
+abbrev pub invariant-loop-y : goal.invariant-loop-y
+invariant-loop-y l = (l.y ≤ l.cells) × (64 ≡ length l.head) × (4096 ≡ length l.next) × Linked l.matrix l.cells l.y l.head l.next
+
+abbrev pub decreases-loop-y : goal.decreases-loop-y
+decreases-loop-y l = l.y

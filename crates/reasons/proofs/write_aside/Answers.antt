@@ -1,0 +1,44 @@
+use borrow.Author.Rules.{rules}
+use native.Mathlib.Omega.{arith}
+use Prim.Native.Nat.{◌*◌, ◌≤◌}
+use mathlib.Core.Path.{sym}
+use lib.ListN.{length}
+use lib.Seq.{length-take-le}
+use Rattle.ranges.specs.Sources.{steps_by}
+use Rattle.reason.specs.Line.{lines_in}
+use Rattle.reason.specs.Own.{OwnList}
+use Rattle.reason.proofs.Bytes.{lines_length}
+use Rattle.reason.proofs.Few.{pairs_few}
+use Rattle.choice.specs.Choice.{mark_in}
+use Rattle.reasons.proofs.Begun.{own_fits}
+use Rattle.reasons.proofs.Owed.{reasons_given}
+use Rattle.reasons.proofs.write_aside.Goals as goal
+
+-- the own list stands
+own : (c : tie.After-put-list) → let a = c.args in
+    OwnList a.n (steps_by a.chart.now a.at a.n a.first.now) (mark_in a.n a.matrix.now) (lines_in c.put_list-lines.last.1.1.1.1.1.0 c.put_list-lines.result)
+own c = c.put_list-lines.ensures.own
+
+fits : (c : tie.After-put-list) → 5 * c.put_list-lines.result ≤ 20160
+fits c =
+    let lines = lines_in c.put_list-lines.last.1.1.1.1.1.0 c.put_list-lines.result in
+    omega (arith, own_fits c.args.n lines c.requires.sorted.triples.few c.requires.marks_are (own c), lines_length c.put_list-lines.last.1.1.1.1.1.0 c.put_list-lines.result)
+
+inside : (c : tie.After-put-list) → 5 * c.put_list-lines.result ≤ length c.put_list-lines.last.1.1.1.1.1.0
+inside c = omega (arith, fits c, c.put_list-lines.kept.1.1.1.1.1.0, c.list_room-list.ensures)
+
+pub put_list-lines-requires : goal.put_list-lines-requires
+put_list-lines-requires c = record { sorted = c.requires.sorted; triples_rise = c.requires.triples_rise; n_in_bounds = (c.requires.n_in_bounds, omega (arith, c.list_room-list.ensures, pairs_few c.args.n c.requires.sorted.triples.few)); marks_are = c.requires.marks_are; marks_below = c.requires.marks_below }
+
+pub overflow_mul-list : goal.overflow_mul-list
+overflow_mul-list c = omega (arith, fits c)
+
+pub slice_bounds-list-end : goal.slice_bounds-list-end
+slice_bounds-list-end c = inside c
+
+pub slice_bounds-fill-end : goal.slice_bounds-fill-end
+slice_bounds-fill-end c = sym (length-take-le _ c.put_list-lines.last.1.1.1.1.1.0 (inside c))
+
+pub returns : goal.returns
+returns c =
+    reasons_given c.args.n _ _ c.put_list-lines.last.1.1.1.1.1.0 c.put_list-lines.result (inside c) c.requires.marks_are (own c) c.fill.ensures

@@ -1,0 +1,17 @@
+-- The loop's invariant: the lines of p with the k states above it stand in the buffer.
+use Prim.Native.Nat.{◌+◌, ◌-◌, ◌*◌, ◌≤◌, ◌<◌}
+use mathlib.Core.Path.{◌≡◌, refl, ◌∙◌}
+use lib.ListN.{length}
+use Rattle.relation.proofs.Cells.{cell_in}
+use Rattle.relation.specs.Promise.{byte_at}
+use Rattle.text.proofs.Laws.{Put, put_then, placed_none}
+use Rattle.report.specs.Text.{row_text, pair_text}
+use Rattle.report.proofs.Laws.{row_none, row_step, row_longer, row_within}
+use Rattle.report.proofs.put_row.Given as goal
+
+abbrev pub invariant-loop-k : goal.invariant-loop-k
+invariant-loop-k l =
+    (l.k ≤ l.above) × Put l.initial.buffer l.at (row_text (byte_at l.n l.matrix) l.p l.k) l.end l.buffer × (length l.buffer ≡ length l.initial.buffer)
+
+abbrev pub decreases-loop-k : goal.decreases-loop-k
+decreases-loop-k l = l.above - l.k

@@ -1,0 +1,24 @@
+use borrow.Author.Rules.{rules}
+use native.Mathlib.Omega.{arith}
+use Prim.Native.Nat.{◌≤◌}
+use mathlib.Core.Path.{sym}
+use lib.ListN.{length}
+use lib.Seq.{length-take-le}
+use Rattle.report.proofs.Promise.{report_short, promised}
+use Rattle.report.proofs.report.Goals as goal
+
+-- the text is on the page
+inside : (c : tie.After-make) → c.make-size.result ≤ length c.make-size.new.page
+inside c =
+    omega (arith, c.make-size.ensures.size_is, report_short c.args.chart.now c.make-size.ensures.text c.make-size.ensures.is_report, c.make-size.auto.1.0, c.page_room-page.ensures)
+
+pub slice_bounds-page-end : goal.slice_bounds-page-end
+slice_bounds-page-end c = omega (arith, inside c)
+
+pub slice_bounds-fill-end : goal.slice_bounds-fill-end
+slice_bounds-fill-end c = sym (length-take-le _ c.make-size.new.page (omega (arith, inside c)))
+
+pub returns : goal.returns
+returns c =
+    let a = c.args in
+    promised a.chart.now a.buffer.now _ _ c.make-size.ensures c.fill.ensures
