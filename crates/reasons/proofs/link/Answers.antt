@@ -7,21 +7,17 @@ use Rattle.reasons.specs.Linked.{Linked}
 use Rattle.reasons.proofs.Linked.{linked_more}
 use Rattle.reasons.proofs.link.Goals as goal
 
--- the marks have heads
-small : (c : tie.After-shared-slice-known invariant-loop decreases-loop) → get_or c.args.matrix.now (c.loop-y.y - 1) 0 < 64
-small c = c.requires.by_index (c.loop-y.y - 1) (omega (arith, c.loop-y.invariant.0, c.loop-y-test.true))
-
 pub loop-y-init : goal.loop-y-init
 loop-y-init c = (omega arith, c.requires.cells_in_bounds.2, c.requires.cells_in_bounds.3, c.requires.linked)
 
 pub overflow_cast-mark : goal.overflow_cast-mark
-overflow_cast-mark c = omega (arith, small c)
+overflow_cast-mark c = omega (arith, c.requires.by_index (c.loop-y.y - 1) (omega (arith, c.loop-y.invariant.0, c.loop-y-test.true)))
 
 pub offset_bounds-head-mark : goal.offset_bounds-head-mark
-offset_bounds-head-mark c = omega (arith, small c)
+offset_bounds-head-mark c = omega (arith, c.requires.by_index (c.loop-y.y - 1) (omega (arith, c.loop-y.invariant.0, c.loop-y-test.true)))
 
 pub bounds-head-mark : goal.bounds-head-mark
-bounds-head-mark c = small c
+bounds-head-mark c = c.requires.by_index (c.loop-y.y - 1) (omega (arith, c.loop-y.invariant.0, c.loop-y-test.true))
 
 pub bounds-next-y : goal.bounds-next-y
 bounds-next-y c = omega (arith, c.loop-y.invariant.0, c.requires.cells_in_bounds.1)
@@ -30,10 +26,10 @@ pub overflow_cast-head : goal.overflow_cast-head
 overflow_cast-head c = omega (arith, c.loop-y.invariant.0, c.requires.cells_in_bounds.1)
 
 pub offset_bounds-head-mark-in-loop-y : goal.offset_bounds-head-mark-in-loop-y
-offset_bounds-head-mark-in-loop-y c = omega (arith, small c)
+offset_bounds-head-mark-in-loop-y c = omega (arith, c.requires.by_index (c.loop-y.y - 1) (omega (arith, c.loop-y.invariant.0, c.loop-y-test.true)))
 
 pub bounds-head-mark-in-loop-y : goal.bounds-head-mark-in-loop-y
-bounds-head-mark-in-loop-y c = small c
+bounds-head-mark-in-loop-y c = c.requires.by_index (c.loop-y.y - 1) (omega (arith, c.loop-y.invariant.0, c.loop-y-test.true))
 
 pub loop-y-preserved : goal.loop-y-preserved
 loop-y-preserved c =
@@ -41,7 +37,7 @@ loop-y-preserved c =
     let a = c.args in
     let y : ℕ = l.y - 1 in
     let back : y + 1 ≡ l.y = omega (arith, c.loop-y-test.true) in
-    let w = linked_more a.matrix.now a.cells y l.head l.next (rw (back) l.invariant.3) (small c) l.invariant.1 (omega (arith, l.invariant.0, l.invariant.2, c.requires.cells_in_bounds.1)) (omega (arith, l.invariant.0, c.requires.cells_in_bounds.1)) in
+    let w = linked_more a.matrix.now a.cells y l.head l.next (rw (back) l.invariant.3) (c.requires.by_index (c.loop-y.y - 1) (omega (arith, c.loop-y.invariant.0, c.loop-y-test.true))) l.invariant.1 (omega (arith, l.invariant.0, l.invariant.2, c.requires.cells_in_bounds.1)) (omega (arith, l.invariant.0, c.requires.cells_in_bounds.1)) in
     (omega (arith, l.invariant.0), l.invariant.1 ∙ sym (length-set l.head _ _), l.invariant.2 ∙ sym (length-set l.next _ _), w)
 
 pub returns : goal.returns

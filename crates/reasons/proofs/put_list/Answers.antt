@@ -36,7 +36,7 @@ loop-mark-smaller c = omega (arith, c.requires.sorted.triples.few, c.loop-mark-t
 pub loop-mark-preserved : goal.loop-mark-preserved
 loop-mark-preserved c =
     let l = c.loop-mark in
-    (omega arith, l.invariant.1 ∙ sym c.put_mark-lines.auto.1.1.1.1.1.1.1.1.0, λ i h. c.put_mark-lines.ensures.kept i h ∙ l.invariant.2 i (omega (arith, c.put_mark-lines.ensures.onward)), c.put_mark-lines.ensures.begun)
+    (omega arith, l.invariant.1 ∙ sym c.put_mark-lines.auto.list, λ i h. c.put_mark-lines.ensures.kept i h ∙ l.invariant.2 i (omega (arith, c.put_mark-lines.ensures.onward)), c.put_mark-lines.ensures.begun)
 
 pub shape_of-list : goal.shape_of-list
 shape_of-list c = sym c.loop-mark.invariant.1

@@ -12,21 +12,6 @@ use Rattle.reasons.specs.Begun.{Begun, KeptFrom}
 use Rattle.reasons.proofs.Begun.{begun_following, begun_mark, begun_put, room_for}
 use Rattle.reasons.proofs.put_mark.Goals as goal
 
--- there is room for the line of the cell y
-room : (c : tie.In-loop invariant-loop decreases-loop) → (5 * c.loop-y.lines + 5 ≤ length c.loop-y.list) × (5 * c.loop-y.lines + 5 ≤ 20480)
-room c =
-    let l = c.loop-y in
-    let fits = room_for c.args.n _ c.args.matrix.now l.lines l.list l.invariant.4 c.loop-y-test.true (l.invariant.1 c.loop-y-test.true) c.requires.mark_nonzero.0 c.requires.marks_are in
-    (omega (arith, fits, l.invariant.0, c.requires.n_in_bounds.1), omega (arith, fits, cells_few c.args.n c.requires.sorted.triples.few))
-
-few : (c : tie.In-loop invariant-loop decreases-loop) → c.loop-y.y < 4096
-few c = omega (arith, c.loop-y-test.true, cells_few c.args.n c.requires.sorted.triples.few)
-
--- the next cell that bears the mark
-onward : (c : tie.In-loop invariant-loop decreases-loop) → let a = c.args in
-    Following a.matrix.now (a.n * a.n) (get_or a.matrix.now c.loop-y.y 0) (c.loop-y.y + 1) (get_or a.next.now c.loop-y.y 0)
-onward c = c.requires.linked.nexts c.loop-y.y (omega arith) c.loop-y-test.true
-
 pub overflow_cast-y : goal.overflow_cast-y
 overflow_cast-y c =
     omega (arith, (c.requires.linked.heads c.args.mark c.requires.mark_nonzero.1).within)
@@ -41,34 +26,34 @@ pub overflow_mul-n : goal.overflow_mul-n
 overflow_mul-n c = omega (arith, cells_few c.args.n c.requires.sorted.triples.few)
 
 pub overflow_mul-lines : goal.overflow_mul-lines
-overflow_mul-lines c = omega (arith, (room c).1)
+overflow_mul-lines c = omega (arith, room_for c.args.n _ c.args.matrix.now c.loop-y.lines c.loop-y.list c.loop-y.invariant.4 c.loop-y-test.true (c.loop-y.invariant.1 c.loop-y-test.true) c.requires.mark_nonzero.0 c.requires.marks_are, cells_few c.args.n c.requires.sorted.triples.few)
 
 pub put_line-requires : goal.put_line-requires
 put_line-requires c =
     let n = c.args.n in
     let l = c.loop-y in
     let t = c.loop-y-test.true in
-    record { sorted = c.requires.sorted; triples_rise = c.requires.triples_rise; p_lt_n = (row_in n l.y t, column_in n l.y t, c.requires.n_in_bounds.0, omega (arith, (room c).0)); marks_are = c.requires.marks_are; q_nonzero = rw (pair_cell n l.y) (omega (arith, l.invariant.1 t, c.requires.mark_nonzero.0)) }
+    record { sorted = c.requires.sorted; triples_rise = c.requires.triples_rise; p_lt_n = (row_in n l.y t, column_in n l.y t, c.requires.n_in_bounds.0, omega (arith, room_for c.args.n _ c.args.matrix.now c.loop-y.lines c.loop-y.list c.loop-y.invariant.4 c.loop-y-test.true (c.loop-y.invariant.1 c.loop-y-test.true) c.requires.mark_nonzero.0 c.requires.marks_are, l.invariant.0, c.requires.n_in_bounds.1)); marks_are = c.requires.marks_are; q_nonzero = rw (pair_cell n l.y) (omega (arith, l.invariant.1 t, c.requires.mark_nonzero.0)) }
 
 pub overflow_add-lines : goal.overflow_add-lines
-overflow_add-lines c = omega (arith, (room c).1)
+overflow_add-lines c = omega (arith, room_for c.args.n _ c.args.matrix.now c.loop-y.lines c.loop-y.list c.loop-y.invariant.4 c.loop-y-test.true (c.loop-y.invariant.1 c.loop-y-test.true) c.requires.mark_nonzero.0 c.requires.marks_are, cells_few c.args.n c.requires.sorted.triples.few)
 
 pub offset_bounds-next-y : goal.offset_bounds-next-y
-offset_bounds-next-y c = omega (arith, few c)
+offset_bounds-next-y c = omega (arith, c.loop-y-test.true, cells_few c.args.n c.requires.sorted.triples.few)
 
 pub bounds-next-y : goal.bounds-next-y
-bounds-next-y c = few c
+bounds-next-y c = omega (arith, c.loop-y-test.true, cells_few c.args.n c.requires.sorted.triples.few)
 
 pub overflow_cast-y-in-loop-y : goal.overflow_cast-y-in-loop-y
-overflow_cast-y-in-loop-y c = omega (arith, (onward c).within)
+overflow_cast-y-in-loop-y c = omega (arith, (c.requires.linked.nexts c.loop-y.y (omega arith) c.loop-y-test.true).within)
 
 pub loop-y-smaller : goal.loop-y-smaller
-loop-y-smaller c = omega (arith, (onward c).onward, c.loop-y-test.true)
+loop-y-smaller c = omega (arith, (c.requires.linked.nexts c.loop-y.y (omega arith) c.loop-y-test.true).onward, c.loop-y-test.true)
 
 pub loop-y-preserved : goal.loop-y-preserved
 loop-y-preserved c =
     let l = c.loop-y in
-    let f = onward c in
+    let f = c.requires.linked.nexts c.loop-y.y (omega arith) c.loop-y-test.true in
     let bears = l.invariant.1 c.loop-y-test.true in (
       l.invariant.0 ∙ sym c.put_line.ensures.same_length,
       λ h. f.bears h ∙ bears,

@@ -9,13 +9,6 @@ use Rattle.reason.proofs.Few.{few_lines}
 use Rattle.reasons.proofs.Owed.{reasons_straight}
 use Rattle.reasons.proofs.write.Goals as goal
 
--- there are no more lines than pairs of two states
-few : (c : tie.After-put-list) → let n = c.args.n in c.put_list-lines.result ≤ n * n - n
-few c =
-    let own = c.put_list-lines.ensures.own in
-    let lines = few_lines c.args.n _ _ (rw c.sources-first.ensures.n_value c.requires.marks_are) (lines_in c.put_list-lines.new.list c.put_list-lines.result) own.chosen own.rising in
-    omega (arith, lines, lines_length c.put_list-lines.new.list c.put_list-lines.result)
-
 pub overflow_mul-n : goal.overflow_mul-n
 overflow_mul-n c = omega (arith, cells_few c.args.n c.requires.stands.few)
 
@@ -35,10 +28,10 @@ pub put_list-lines-requires : goal.put_list-lines-requires
 put_list-lines-requires c = record { sorted = c.sources-first.ensures.sorted; triples_rise = rw c.sources-first.ensures.n_value c.requires.triples_rise; n_in_bounds = (c.requires.n_nonzero.1, omega (arith, c.if-buffer-n.false)); marks_are = rw c.sources-first.ensures.n_value c.requires.marks_are; marks_below = c.requires.marks_below }
 
 pub overflow_mul-result : goal.overflow_mul-result
-overflow_mul-result c = omega (arith, few c, cells_few c.args.n c.requires.stands.few)
+overflow_mul-result c = omega (arith, few_lines c.args.n _ _ (rw c.sources-first.ensures.n_value c.requires.marks_are) (lines_in c.put_list-lines.new.list c.put_list-lines.result) c.put_list-lines.ensures.own.chosen c.put_list-lines.ensures.own.rising, lines_length c.put_list-lines.new.list c.put_list-lines.result, cells_few c.args.n c.requires.stands.few)
 
 pub returns : goal.returns
 returns c =
-    let same = c.put_list-lines.auto.1.1.1.1.1.0 in
+    let same = c.put_list-lines.auto.list in
     let own = rw c.sources-first.ensures.n_value at c.put_list-lines.ensures in
-    reasons_straight c.args.n _ _ _ _ c.put_list-lines.result (omega (arith, few c, c.if-buffer-n.false, same)) same c.requires.marks_are own
+    reasons_straight c.args.n _ _ _ _ c.put_list-lines.result (omega (arith, few_lines c.args.n _ _ (rw c.sources-first.ensures.n_value c.requires.marks_are) (lines_in c.put_list-lines.new.list c.put_list-lines.result) c.put_list-lines.ensures.own.chosen c.put_list-lines.ensures.own.rising, lines_length c.put_list-lines.new.list c.put_list-lines.result, c.if-buffer-n.false, same)) same c.requires.marks_are own
