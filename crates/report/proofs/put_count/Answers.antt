@@ -17,4 +17,5 @@ returns c =
     let one = put_fits old a.at word (omega arith) c.put_bytes-number.ensures in
     let two = put_next old a.at word (decimal a.x) (omega arith) one c.put_number-end.ensures in
     let three = put_next old a.at (word ++ decimal a.x) (10 ∷ []) (omega (arith, length-append word (decimal a.x))) two c.put_bytes.ensures in
-    rw count_text at three
+    let all = rw count_text at three in
+    record { value = all.0; buffer_after = all.1 }

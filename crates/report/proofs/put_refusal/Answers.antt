@@ -24,4 +24,5 @@ returns c =
     let two = put_next old 0 refused_word input (omega arith) one (rw c.input_number.ensures at c.put_number-second.ensures) in
     let three = put_next old 0 first (32 ∷ []) (omega arith) two c.put_bytes-third.ensures in
     let four = put_next old 0 (first ++ (32 ∷ [])) row (omega (arith, length-append first (32 ∷ []))) three c.put_line.ensures in
-    rw (← refused_text_lem r) (put_start old (first ++ (32 ∷ []) ++ row) four)
+    let all = put_start old (first ++ (32 ∷ []) ++ row) four in
+    rw (← refused_text_lem r) (record { value = all.0; buffer_after = all.1 })

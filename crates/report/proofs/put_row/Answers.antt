@@ -9,25 +9,6 @@ use Rattle.report.specs.Text.{row_text, pair_text}
 use Rattle.report.proofs.Laws.{row_none, row_step, row_longer, row_within}
 use Rattle.report.proofs.put_row.Goals as goal
 
--- within the loop: the pair's cell, and that its line fits
-cell : (c : tie.In-loop invariant-loop decreases-loop)
-    → c.args.p * c.args.n + (c.args.p + 1 + c.loop-k.k)
-    < length c.args.matrix.now
-cell c =
-    let a = c.args in
-    let k = c.loop-k.k in
-    omega (arith, c.requires.n_bound, cell_in a.n a.p (a.p + 1 + k) c.requires.n_bound.1 (omega (arith, c.loop-k-test.true, c.requires.n_bound)))
-
-room : (c : tie.In-loop invariant-loop decreases-loop) → c.loop-k.end
-    + length (pair_text c.args.p (c.args.p + 1 + c.loop-k.k)
-    (byte_at c.args.n c.args.matrix.now c.args.p (c.args.p + 1 + c.loop-k.k)))
-    ≤ length c.loop-k.buffer
-room c =
-    let a = c.args in
-    let l = c.loop-k in
-    let mark = byte_at a.n a.matrix.now in
-    omega (arith, c.requires.p_in_bounds, l.invariant.1.0, l.invariant.2, row_longer mark a.p l.k, row_within mark a.p (l.k + 1) (a.n - 1 - a.p) (omega (arith, c.loop-k-test.true)))
-
 pub overflow_mul-row : goal.overflow_mul-row
 overflow_mul-row c = let a = c.args in omega (arith, cell_in a.n a.p 0 c.requires.n_bound.1 (omega (arith, c.requires.n_bound)))
 
@@ -49,10 +30,10 @@ pub overflow_add-q-in-loop-k : goal.overflow_add-q-in-loop-k
 overflow_add-q-in-loop-k c = omega arith
 
 pub overflow_add-row : goal.overflow_add-row
-overflow_add-row c = omega (arith, cell c, c.well_formed)
+overflow_add-row c = omega (arith, c.requires.n_bound, c.well_formed, cell_in c.args.n c.args.p (c.args.p + 1 + c.loop-k.k) c.requires.n_bound.1 (omega (arith, c.loop-k-test.true, c.requires.n_bound)))
 
 pub bounds-matrix-row : goal.bounds-matrix-row
-bounds-matrix-row c = cell c
+bounds-matrix-row c = omega (arith, c.requires.n_bound, c.well_formed, cell_in c.args.n c.args.p (c.args.p + 1 + c.loop-k.k) c.requires.n_bound.1 (omega (arith, c.loop-k-test.true, c.requires.n_bound)))
 
 pub overflow_cast-matrix : goal.overflow_cast-matrix
 overflow_cast-matrix c =
@@ -60,7 +41,11 @@ overflow_cast-matrix c =
     omega (arith, c.type_inv.matrix (a.p * a.n + (a.p + 1 + c.loop-k.k)))
 
 pub put_pair-end-requires : goal.put_pair-end-requires
-put_pair-end-requires c = room c
+put_pair-end-requires c =
+    let a = c.args in
+    let l = c.loop-k in
+    let mark = byte_at a.n a.matrix.now in
+    omega (arith, c.requires.p_in_bounds, l.invariant.1.0, l.invariant.2, row_longer mark a.p l.k, row_within mark a.p (l.k + 1) (a.n - 1 - a.p) (omega (arith, c.loop-k-test.true)))
 
 pub overflow_add-k : goal.overflow_add-k
 overflow_add-k c = omega arith
@@ -88,4 +73,5 @@ returns c =
     let a = c.args in
     let l = c.loop-k in
     let e : l.k ≡ a.n - 1 - a.p = omega (arith, l.invariant.0, c.loop-k-test.false) in
-    rw e at l.invariant.1
+    let all = rw e at l.invariant.1 in
+    record { value = all.0; buffer_after = all.1 }

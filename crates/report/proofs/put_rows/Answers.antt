@@ -45,4 +45,5 @@ returns c =
     let a = c.args in
     let l = c.loop-p in
     let e : l.p ≡ a.n = omega (arith, l.invariant.0, c.loop-p-test.false) in
-    rw e at l.invariant.1
+    let all = rw e at l.invariant.1 in
+    record { value = all.0; buffer_after = all.1 }
