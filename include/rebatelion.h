@@ -1,6 +1,7 @@
 /* Rebatelion for C: questions about mode charts, answered by proved code.
  *
- * Link target/staticlib/libviewer.a, which `rt staticlib viewer` makes for x86-64 Linux. It needs nothing but C's own library.
+ * Link crates/viewer/out/libviewer.a, which `rt lib` makes in the folder crates/viewer, for x86-64 Linux. It needs nothing but C's
+ * own library.
  *
  * THE CALLS
  *

@@ -2,8 +2,8 @@
  * question's word is named with its folder, as ./compare.
  *
  * tests/run builds it as tests/target/viewer. By hand, on x86-64, in the project's root:
- *     rt staticlib viewer
- *     gcc -std=c11 -Iinclude viewer/[a-z]*.c target/staticlib/libviewer.a -o target/viewer
+ *     (cd crates/viewer && rt lib)
+ *     gcc -std=c11 -Iinclude viewer/[a-z]*.c crates/viewer/out/libviewer.a -o tests/target/viewer
  *
  * Exit status: 0 all shown, 1 something was refused, 2 no file, wrong arguments or output that could not be written. Where the
  * reader of a pipe has gone, the system ends it by a signal, as it does every program. */
