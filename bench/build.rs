@@ -1,11 +1,11 @@
-//! Links the libviewer.a in the folder that REBATELION_ARCHIVE names (bench/run sets it), or else ../target/staticlib.
+//! Links the libviewer.a in the folder that REBATELION_ARCHIVE names (bench/run sets it), or else ../crates/viewer/out.
 
 use std::path::PathBuf;
 
 fn main() {
     let folder = match std::env::var_os("REBATELION_ARCHIVE") {
         Some(named) => PathBuf::from(named),
-        None => PathBuf::from(std::env::var_os("CARGO_MANIFEST_DIR").unwrap()).join("../target/staticlib"),
+        None => PathBuf::from(std::env::var_os("CARGO_MANIFEST_DIR").unwrap()).join("../crates/viewer/out"),
     };
     println!("cargo:rerun-if-env-changed=REBATELION_ARCHIVE");
     println!("cargo:rerun-if-changed={}", folder.join("libviewer.a").display());
