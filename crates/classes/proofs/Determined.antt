@@ -5,7 +5,6 @@ use mathlib.Core.Bool.{Bool}
 use mathlib.Core.List.{List}
 use native.Mathlib.Omega.{arith}
 use native.Mathlib.Decide.{dec_le}
-use lib.ListN.{length, get_or}
 use lib.Seq.{ext_get_or}
 use Rattle.chart.specs.Chart.{Step}
 use Rattle.words.specs.Words.{member}

@@ -24,7 +24,7 @@ use Rattle.nearness.specs.Mark.{bears_mark}
 use Rattle.nearness.proofs.Matched.{bisimulation_monotone}
 use Rattle.nearness.proofs.Formulas.{near_down}
 use Rattle.nearness.proofs.Rounds.{near_rounds, mark_test}
-use Rattle.relation.specs.Rows.{in_rows, Within, Holds, Keeps}
+use Rattle.relation.specs.Rows.{Within, Holds, Keeps}
 use Rattle.relation.specs.Cells.{pair_at}
 use Rattle.relation.specs.Settles.{Settles}
 use Rattle.relation.proofs.Cells.{row_in, column_in}

@@ -2,21 +2,21 @@
 -- before. Assumes nothing.
 use Prim.Native.Nat.{ℕ, zero, suc, ◌+◌, ◌-◌, ◌*◌, ◌^◌, ◌≤◌, ◌<◌}
 use mathlib.Core.Path.{◌≡◌, refl, sym, ap, subst, subst⁻¹, ◌∙◌}
-use mathlib.Core.Bool.{Bool, true, false, So}
+use mathlib.Core.Bool.{Bool, true, So}
 use mathlib.Core.List.{List, Memᴰ as Mem}
 use mathlib.Core.Logic.{◌⊎◌, inl, inr}
 use native.Mathlib.Omega.{arith}
 use native.Mathlib.Decide.{dec_le, ℕ_discrete}
 use borrow.Author.Tests.{eq-eqb, eqb-true}
-use lib.Bits.{bit_and, and_le_l}
+use lib.Bits.{and_le_l}
 use lib.Count.{count_trailing_zeros}
 use lib.Dec.{eqb}
 use lib.ListN.{get_or}
 use lib.Pow.{pow_mono, pow_pos}
-use Rattle.settle.specs.Test.{both, neg, same, all_of, each}
+use Rattle.settle.specs.Test.{both, neg, each}
 use Rattle.settle.specs.Finite.{below, pairs}
 use Rattle.settle.specs.Chain.{Settled, full, chain}
-use Rattle.settle.proofs.Test.{never, ext, tested, stable, both_i, both_e, neg_i, neg_e, same_i, same_e, all_i, all_e, each_i, each_e}
+use Rattle.settle.proofs.Test.{never, ext, stable, both_i, both_e, neg_i, neg_e, same_i, same_e, all_i, all_e, each_i, each_e}
 use Rattle.settle.proofs.Finite.{below_i, below_e, pairs_i, pairs_e_lem}
 use Rattle.chart.specs.Chart.{Step}
 use Rattle.chart.specs.Layout.{StepIn}
@@ -26,11 +26,11 @@ use Rattle.steps.specs.Table.{Table, HasStep}
 use Rattle.steps.specs.Walk.{leads}
 use Rattle.steps.proofs.Leads.{leads_none}
 use Rattle.steps.proofs.Stepping.{has_step, lead_i, lead_e}
-use Rattle.steps.proofs.Bits.{and_member, one_member, lowest_lt, lowest_in}
-use Rattle.nearness.specs.Relation.{Relation, Near, turned, matched, bisimulation_round}
+use Rattle.steps.proofs.Bits.{and_member, one_member, lowest_in}
+use Rattle.nearness.specs.Relation.{Near, turned, bisimulation_round}
 use Rattle.nearness.proofs.Matched.{matched_i, matched_e}
 use Rattle.nearness.proofs.Formulas.{near_refl, near_sym, near_trans, near_down}
-use Rattle.relation.specs.Rows.{in_rows, Within, Holds, Keeps}
+use Rattle.relation.specs.Rows.{in_rows, Holds, Keeps}
 use Rattle.relation.proofs.Keeping.{within_states, keeps_holds}
 use Rattle.classes.specs.Splitting.{Sharing, undivided}
 use Rattle.classes.specs.Marking.{fallen, is_new, shares_row}

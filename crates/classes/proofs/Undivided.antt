@@ -1,6 +1,6 @@
 -- A split of the rows by one set of states, by each action into a class, and by each class.
-use Prim.Native.Nat.{ℕ, suc, ◌+◌, ◌-◌, ◌*◌, ◌^◌, ◌≤◌, ◌<◌}
-use mathlib.Core.Path.{◌≡◌, refl, sym, ap, ap₂, subst, ◌∙◌}
+use Prim.Native.Nat.{ℕ, ◌+◌, ◌-◌, ◌*◌, ◌^◌, ◌≤◌, ◌<◌}
+use mathlib.Core.Path.{◌≡◌, refl, sym, ap, ◌∙◌}
 use mathlib.Core.Bool.{Bool, true, false, So}
 use mathlib.Core.List.{List}
 use mathlib.Core.Logic.{inl, inr}
@@ -10,7 +10,7 @@ use native.Mathlib.Nat.{mul-le-mul_right}
 use native.Mathlib.Numerals.{add-one}
 use lib.Bits.{bit_and}
 use lib.Count.{count_trailing_zeros}
-use lib.ListN.{length, get_or}
+use lib.ListN.{length}
 use Rattle.settle.specs.Test.{both, either, implies, neg, same, all_of, each}
 use Rattle.settle.specs.Finite.{below}
 use Rattle.settle.proofs.Test.{never, both_e, same_i}

@@ -1,19 +1,19 @@
 -- What a round does to the relation that the rows hold, and what it notes for the next. Assumes nothing.
 use Prim.Native.Nat.{ℕ, suc, ◌+◌, ◌-◌, ◌*◌, ◌^◌, ◌≤◌, ◌<◌}
 use mathlib.Core.Path.{◌≡◌, refl, sym, ap, subst, ◌∙◌}
-use mathlib.Core.Bool.{Bool, true, false, So}
+use mathlib.Core.Bool.{Bool, So}
 use mathlib.Core.List.{List, Memᴰ as Mem}
 use mathlib.Core.Logic.{◌⊎◌, inl, inr}
 use native.Mathlib.Omega.{arith}
 use native.Mathlib.Decide.{dec_le, dec_lt}
 use native.Mathlib.Nat.{zero-add}
 use borrow.Author.Tests.{eq-eqb, eqb-true}
-use lib.Bits.{bit_and, and_le_l}
+use lib.Bits.{and_le_l}
 use lib.Dec.{eqb}
 use lib.ListN.{get_or}
 use lib.Pow.{pow_pos}
-use Rattle.settle.specs.Test.{pick, both, neg, each}
-use Rattle.settle.specs.Finite.{below, pairs}
+use Rattle.settle.specs.Test.{both, neg}
+use Rattle.settle.specs.Finite.{pairs}
 use Rattle.settle.specs.Chain.{full, chain}
 use Rattle.settle.proofs.Test.{never, tested, stable, ext, both_i, both_e, neg_i, neg_e, each_i, each_e, picked}
 use Rattle.settle.proofs.Finite.{below_i, below_e, pairs_i}
@@ -30,8 +30,8 @@ use Rattle.steps.proofs.Stepping.{member_below, has_step, lead_i, lead_e}
 use Rattle.nearness.specs.Relation.{Relation, matched, simulation_round, Simulating}
 use Rattle.nearness.proofs.Matched.{matched_i, matched_e, simulation_monotone}
 use Rattle.relation.specs.Rows.{in_rows, Holds, Keeps}
-use Rattle.relation.proofs.Keeping.{within_states, keeps_holds}
-use Rattle.falls.specs.Round.{outlasts, able_too, fallen, smaller, Noted, Fallen}
+use Rattle.relation.proofs.Keeping.{keeps_holds}
+use Rattle.falls.specs.Round.{outlasts, able_too, fallen, Noted, Fallen}
 use Rattle.falls.proofs.Steps.{Tables, all_member, keeps_step_i, keeps_step_e}
 
 -- R fell to the rows: in `changed` are the states whose rows became smaller, and noted is what fell from them

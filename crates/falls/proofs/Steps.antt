@@ -1,6 +1,6 @@
 -- What the words of the two tables say of the chart's steps; and that both walks find the states that keep a step into a row. Assumes nothing.
 use Prim.Native.Nat.{ℕ, ◌+◌, ◌-◌, ◌*◌, ◌^◌, ◌≤◌, ◌<◌}
-use mathlib.Core.Path.{◌≡◌, refl, sym, ap, ◌∙◌}
+use mathlib.Core.Path.{◌≡◌, sym, ap, ◌∙◌}
 use mathlib.Core.Bool.{Bool, true, false, So}
 use mathlib.Core.List.Memᴰ
 use mathlib.Core.List.{List, map, Memᴰ as Mem}
@@ -11,8 +11,6 @@ use borrow.Author.Tests.{eq-eqb, eqb-true}
 use lib.Bits.{bit_and, and_le_l}
 use lib.Count.{count_trailing_zeros}
 use lib.ListN.{get_or}
-use lib.Pow.{pow_pos}
-use Rattle.settle.specs.Test.{both, neg}
 use Rattle.settle.proofs.Test.{never, both_i, both_e, neg_i, neg_e}
 use Rattle.chart.specs.Chart.{Step}
 use Rattle.chart.specs.Layout.{StepIn}

@@ -4,16 +4,13 @@ use mathlib.Core.Path.{◌≡◌, refl, sym, ap, ap₂, subst, ◌∙◌}
 use mathlib.Core.Bool.{Bool, true, false, So}
 use mathlib.Core.List.{List}
 use native.Mathlib.Omega.{arith}
-use native.Mathlib.Decide.{dec_le}
 use native.Mathlib.Nat.{mul-le-mul_right}
 use native.Mathlib.Numerals.{add-one}
 use lib.Bits.{bit_and}
 use lib.Count.{count_trailing_zeros}
 use lib.ListN.{length, get_or}
-use lib.Pow.{pow_pos}
 use Rattle.settle.specs.Test.{both, either, implies, neg, all_of, each}
 use Rattle.settle.specs.Finite.{below}
-use Rattle.settle.proofs.Test.{never}
 use Rattle.words.specs.Words.{member, word_of}
 use Rattle.words.proofs.Words.{none_member, word_of_lem, word_small, word_cong, word_member, others_word}
 use Rattle.steps.specs.Table.{Sized}
@@ -21,7 +18,7 @@ use Rattle.steps.specs.Walk.{leads}
 use Rattle.steps.proofs.Leads.{leads_small}
 use Rattle.steps.proofs.Stepping.{member_below}
 use Rattle.steps.proofs.Walked.{each_none, each_walked}
-use Rattle.relation.specs.Rows.{in_rows, Within, Keeps, struck}
+use Rattle.relation.specs.Rows.{Within, Keeps, struck}
 use Rattle.relation.proofs.Keeping.{within_states, keeps_all, keeps_more, keeps_same, strike_keeps}
 use Rattle.falls.specs.Round.{RowAt, apart, fewer_left, keeps_step, survives, able_too}
 use Rattle.falls.proofs.Walks.{none_yet}

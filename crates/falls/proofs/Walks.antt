@@ -1,21 +1,19 @@
 -- The walks of a round over a set's members, bit by bit: with the lowest looked at and dropped, what is done or still to come is the same.
 use Prim.Native.Nat.{ℕ, ◌-◌, ◌^◌, ◌<◌}
-use mathlib.Core.Path.{◌≡◌, refl, sym, ap, ap₂, ◌∙◌}
-use mathlib.Core.Bool.{Bool, true, false, So}
+use mathlib.Core.Path.{◌≡◌, refl, sym, ap, ◌∙◌}
+use mathlib.Core.Bool.{Bool, true, false}
 use mathlib.Core.List.{List}
-use native.Mathlib.Omega.{arith}
 use native.Mathlib.Decide.{ℕ_discrete}
-use borrow.Author.Tests.{eqb-true, eq-eqb, ne_eqb}
-use lib.Bits.{bit_and, bit_or}
-use lib.Count.{count_trailing_zeros}
+use borrow.Author.Tests.{eq-eqb, ne_eqb}
+use lib.Bits.{bit_or}
 use lib.Dec.{eqb}
 use lib.ListN.{length, get_or, set, length-set}
 use lib.Seq.{get_or-set_same, get_or-set_other}
 use Rattle.settle.specs.Test.{pick, both, either, neg}
-use Rattle.settle.proofs.Test.{never, either_r, either_false}
+use Rattle.settle.proofs.Test.{either_r, either_false}
 use Rattle.words.specs.Words.{member}
 use Rattle.words.proofs.Words.{none_member}
-use Rattle.steps.proofs.Bits.{or_member, one_member, lowest_or_rest}
+use Rattle.steps.proofs.Bits.{or_member, one_member}
 use Rattle.falls.specs.Round.{one_if, fallen, smaller, Noted}
 
 pub none_yet : (s : ℕ) (b : Bool) → either (member 0 s) b ≡ b

@@ -2,7 +2,6 @@
 -- taken together, 3 second chart; the number, the place and the byte as they stand.
 use Rattle.std.specs.Prelude.{ℕ}
 use Rattle.refusal.specs.declared.Input.{Input}
-use Rattle.refusal.specs.declared.Input.TheVariants as Input
 use Rattle.refusal.specs.declared.Refusal.{Refusal}
 
 abbrev pub input_number : Input → ℕ

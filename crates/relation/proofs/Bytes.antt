@@ -1,9 +1,8 @@
 -- The words say what the byte matrix said: after as many rounds, of every pair. Assumes nothing.
 use Prim.Native.Nat.{ℕ, zero, suc, ◌<◌}
-use mathlib.Core.Path.{◌≡◌, refl, sym, ap, ap₂, ◌∙◌}
+use mathlib.Core.Path.{◌≡◌, refl, sym, ◌∙◌}
 use mathlib.Core.Bool.{Bool, true, false, So}
 use mathlib.Core.List.{List, Memᴰ as Mem}
-use native.Mathlib.Omega.{arith}
 use lib.Dec.{eqb, eqb-suc-zero}
 use Rattle.settle.specs.Test.{pick, both, neg}
 use Rattle.settle.specs.Finite.{pairs}

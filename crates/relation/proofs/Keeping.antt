@@ -11,7 +11,7 @@ use lib.Count.{count_trailing_zeros}
 use lib.ListN.{length, get_or, set, replicate}
 use lib.Pow.{pow_pos}
 use lib.Seq.{get_or-set_same, get_or-set_other}
-use Rattle.settle.specs.Test.{pick, both, either, implies}
+use Rattle.settle.specs.Test.{both, either, implies}
 use Rattle.settle.specs.Chain.{full}
 use Rattle.settle.proofs.Test.{never}
 use Rattle.words.specs.Words.{member}

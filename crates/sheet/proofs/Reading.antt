@@ -13,7 +13,7 @@ use Rattle.settle.specs.Test.{pick}
 use Rattle.refusal.specs.Refusal.{sheet_refusal}
 use Rattle.sheet.specs.Formula.{Formula}
 use Rattle.sheet.specs.Reading.{Two, One, Bad, node_at, two_of, one_of, Parsed, parsed, wrong, on_parsed, parse}
-use Rattle.sheet.specs.Reading.{Sheet, sheet, refused, ending, packed, sheet_read}
+use Rattle.sheet.specs.Reading.{sheet, refused, ending, packed, sheet_read}
 use Rattle.sheet.specs.declared.SheetRead.{SheetRead}
 use Rattle.sheet.specs.declared.SheetRead.TheVariants as Read
 use Rattle.sheet.proofs.Found.{number_few, bytes_few, formula_found, fault_found, formula_fewer}

@@ -27,7 +27,6 @@ use Rattle.beside.proofs.Formed.{states_together, transitions_together, fine_exa
 use Rattle.side_by_side.specs.Promise.{Promise}
 use Rattle.side_by_side.specs.Written.{head, HeadWritten, tabled, tabled_steps, StepsWritten}
 use Rattle.side_by_side.specs.declared.Joining.{Joining}
-use Rattle.side_by_side.specs.declared.Joining.TheVariants as Joining
 use Rattle.side_by_side.proofs.Table.{Joint, joint_taken}
 use Rattle.side_by_side.proofs.Written.{step_bytes_append}
 

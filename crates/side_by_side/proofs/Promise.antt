@@ -11,7 +11,6 @@ use Rattle.chart.specs.declared.Shape.{Shape}
 use Rattle.beside.specs.Reading.{read_first, read_second}
 use Rattle.side_by_side.specs.Promise.{Promise, TogetherPromise, JoinPromise}
 use Rattle.side_by_side.specs.declared.Joining.{Joining}
-use Rattle.side_by_side.specs.declared.Joining.TheVariants as Joining
 
 module _ (first second : List ℕ) where
   pub refused_first : {r : Refusal} {old : List ℕ} → read_chart first ≡ Read.Refused r → JoinPromise first second old old (Joining.Refused r)

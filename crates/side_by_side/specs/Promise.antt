@@ -9,7 +9,6 @@ use Rattle.text.specs.Text.{placed}
 use Rattle.beside.specs.Beside.{beside}
 use Rattle.beside.specs.Reading.{TwoRead, two, refused, read_second, read_two}
 use Rattle.side_by_side.specs.declared.Joining.{Joining}
-use Rattle.side_by_side.specs.declared.Joining.TheVariants as Joining
 
 abbrev pub joining_of : TwoRead → Joining
 joining_of (two c d) = Joining.Chart (record { length = length (encode (beside c d)); first = states c; second = states d })

@@ -1,6 +1,5 @@
 use mathlib.Core.Path.{sym, subst, ◌∙◌}
 use mathlib.Core.Logic.{inl, inr}
-use borrow.Author.Rules.{rules}
 use Rattle.sheet.proofs.Accepted.{formed, refused_exactly, accepted_short}
 use Rattle.property.specs.Promise.{Answers}
 use Rattle.property.proofs.SheetPromise.{promise_chart_refused, promise_sheet_refused, promise_accepted}

@@ -1,9 +1,7 @@
-use Prim.Native.Nat.{◌-◌, ◌≤◌}
+use Prim.Native.Nat.{◌-◌}
 use mathlib.Core.Path.{◌≡◌}
-use borrow.Author.Rules.{rules}
 use native.Mathlib.Omega.{arith}
 use borrow.Author.Tests.{le-leb, lt-leb}
-use Rattle.chart.specs.Reading.{judge_codes}
 use Rattle.chart.proofs.Reading.{codes_step, codes_none}
 use Rattle.chart.proofs.judge_codes.Goals as goal
 

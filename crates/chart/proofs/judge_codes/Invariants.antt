@@ -1,9 +1,7 @@
 -- The loop keeps: what is left from number i on, at p, is judged as the whole is. The codes before number i stand before p.
 use Prim.Native.Nat.{◌-◌, ◌≤◌}
 use mathlib.Core.Path.{◌≡◌}
-use borrow.Author.Tests.{le-leb, lt-leb}
 use Rattle.chart.specs.Reading.{judge_codes}
-use Rattle.chart.proofs.Reading.{codes_step, codes_none}
 use Rattle.chart.proofs.judge_codes.Given as goal
 
 abbrev pub invariant-loop-i : goal.invariant-loop-i

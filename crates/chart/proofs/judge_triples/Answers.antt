@@ -1,8 +1,6 @@
-use Prim.Native.Nat.{◌*◌, ◌-◌, ◌≤◌}
+use Prim.Native.Nat.{◌-◌}
 use mathlib.Core.Path.{◌≡◌, sym, ◌∙◌}
-use borrow.Author.Rules.{rules}
 use native.Mathlib.Omega.{arith}
-use Rattle.chart.specs.Reading.{judge_triples}
 use Rattle.chart.proofs.Reading.{triples_step, triples_none, triple_fine}
 use Rattle.chart.proofs.judge_triples.Goals as goal
 

@@ -1,8 +1,7 @@
 -- The loop keeps: what is left from number i on, at p, is judged as the whole is. The triples before number i stand before p.
 use Prim.Native.Nat.{◌*◌, ◌-◌, ◌≤◌}
-use mathlib.Core.Path.{◌≡◌, sym, ◌∙◌}
+use mathlib.Core.Path.{◌≡◌}
 use Rattle.chart.specs.Reading.{judge_triples}
-use Rattle.chart.proofs.Reading.{triples_step, triples_none, triple_fine}
 use Rattle.chart.proofs.judge_triples.Given as goal
 
 abbrev pub invariant-loop-i : goal.invariant-loop-i

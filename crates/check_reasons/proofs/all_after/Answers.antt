@@ -1,13 +1,8 @@
 use borrow.Author.Rules.{rules}
-use borrow.Author.Tests.{not-true, not-false}
 use borrow.Author.Count.{below_more}
 use native.Mathlib.Omega.{arith}
-use mathlib.Core.Path.{◌≡◌, sym, ◌∙◌}
-use mathlib.Core.Bool.{So, false≢true}
-use mathlib.Core.Logic.{⊎_elim}
-use Prim.Native.Nat.{ℕ, ◌-◌, ◌≤◌, ◌<◌}
-use Rattle.words.specs.Words.{member}
-use Rattle.ranges.specs.Sources.{action_at, target_at}
+use mathlib.Core.Path.{sym, ◌∙◌}
+use mathlib.Core.Bool.{false≢true}
 use Rattle.check_reasons.proofs.all_after.Goals as goal
 use Rattle.check_reasons.proofs.all_after.Goals.{else-chart-step-via-then-chart-step+else-not-has, else-chart-step-via-else-chart-step}
 

@@ -1,12 +1,8 @@
 use mathlib.Core.Path.{ap}
 use mathlib.Core.Bool.{not}
-use borrow.Author.Rules.{rules}
 use native.Mathlib.Omega.{arith}
-use Prim.Native.Nat.{◌*◌, ◌-◌}
-use lib.ListN.{length}
-use Rattle.ranges.specs.Sources.{steps_by}
 use Rattle.check_reasons.proofs.Leads.{whether_so, whether_not}
-use Rattle.check_reasons.proofs.Judged.{GoodSo, good_none, line_bad, line_incomplete, all_good, line_good}
+use Rattle.check_reasons.proofs.Judged.{good_none, line_bad, line_incomplete, all_good, line_good}
 use Rattle.check_reasons.proofs.judge.Goals as goal
 
 pub sources-first-requires : goal.sources-first-requires

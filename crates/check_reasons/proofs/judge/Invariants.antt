@@ -1,8 +1,7 @@
 use Prim.Native.Nat.{◌*◌, ◌-◌}
 use lib.ListN.{length}
 use Rattle.ranges.specs.Sources.{steps_by}
-use Rattle.check_reasons.proofs.Leads.{whether_so, whether_not}
-use Rattle.check_reasons.proofs.Judged.{GoodSo, good_none, line_bad, line_incomplete, all_good, line_good}
+use Rattle.check_reasons.proofs.Judged.{GoodSo}
 use Rattle.check_reasons.proofs.judge.Given as goal
 
 abbrev pub invariant-loop-i : goal.invariant-loop-i

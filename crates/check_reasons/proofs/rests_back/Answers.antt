@@ -1,6 +1,5 @@
 use mathlib.Core.Path.{ap}
 use mathlib.Core.Bool.{not}
-use borrow.Author.Rules.{rules}
 use native.Mathlib.Omega.{arith}
 use Rattle.ranges.proofs.Ranges.{range_end, range_target}
 use Rattle.check_reasons.proofs.Leads.{whether_so, whether_not, back_steps, back_rests}

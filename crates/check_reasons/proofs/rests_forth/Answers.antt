@@ -1,6 +1,5 @@
 use mathlib.Core.Path.{ap}
 use mathlib.Core.Bool.{not}
-use borrow.Author.Rules.{rules}
 use native.Mathlib.Omega.{arith}
 use Rattle.ranges.proofs.Ranges.{range_end}
 use Rattle.check_reasons.proofs.Leads.{whether_so, whether_not, some_in, forth_steps, forth_rests}

@@ -1,11 +1,6 @@
 use borrow.Author.Rules.{rules}
-use borrow.Author.Tests.{eqb-true, eqb-false}
 use borrow.Author.Count.{below_more}
 use native.Mathlib.Omega.{arith}
-use mathlib.Core.Path.{◌≡◌}
-use mathlib.Core.Logic.{⊎_elim}
-use Prim.Native.Nat.{ℕ, ◌-◌, ◌≤◌, ◌<◌}
-use Rattle.ranges.specs.Sources.{action_at, target_at}
 use Rattle.check_reasons.proofs.some_leads.Goals as goal
 use Rattle.check_reasons.proofs.some_leads.Goals.{else-chart-step-via-then-chart-step+else-chart-step-2, else-chart-step-via-else-chart-step}
 

@@ -1,7 +1,4 @@
-use borrow.Author.Tests.{eqb-true, eqb-false}
-use borrow.Author.Count.{below_more}
 use mathlib.Core.Path.{◌≡◌}
-use mathlib.Core.Logic.{⊎_elim}
 use Prim.Native.Nat.{ℕ, ◌-◌, ◌≤◌, ◌<◌}
 use Rattle.ranges.specs.Sources.{action_at, target_at}
 use Rattle.check_reasons.proofs.some_leads.Given as goal

@@ -1,12 +1,9 @@
 use borrow.Author.Rules.{rules}
-use borrow.Author.Tests.{leb-true, leb-false}
 use borrow.Author.Count.{below_more}
 use native.Mathlib.Omega.{arith}
-use mathlib.Core.Path.{◌≡◌}
-use mathlib.Core.Logic.{⊎_elim}
-use Prim.Native.Nat.{ℕ, ◌+◌, ◌*◌, ◌-◌, ◌≤◌, ◌<◌}
+use Prim.Native.Nat.{ℕ, ◌+◌, ◌*◌}
 use lib.ListN.{get_or}
-use Rattle.ranges.specs.Sources.{action_at, target_at}
+use Rattle.ranges.specs.Sources.{target_at}
 use Rattle.choice.proofs.all_smaller.Goals as goal
 use Rattle.choice.proofs.all_smaller.Goals.{then-cell-eq0-via-then-cell-eq0, then-cell-eq0-via-else-cell-eq0+then-mark-cell, then-chart-step+else-cell-eq0+else-mark-cell, else-chart-step}
 

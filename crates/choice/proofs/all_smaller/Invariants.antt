@@ -1,7 +1,4 @@
-use borrow.Author.Tests.{leb-true, leb-false}
-use borrow.Author.Count.{below_more}
 use mathlib.Core.Path.{◌≡◌}
-use mathlib.Core.Logic.{⊎_elim}
 use Prim.Native.Nat.{ℕ, ◌+◌, ◌*◌, ◌-◌, ◌≤◌, ◌<◌}
 use lib.ListN.{get_or}
 use Rattle.ranges.specs.Sources.{action_at, target_at}

@@ -1,5 +1,3 @@
-use borrow.Author.Count.{below_more}
-use mathlib.Core.Path.{subst}
 use mathlib.Core.Bool.{false}
 use Prim.Native.Nat.{ℕ, ◌+◌, ◌*◌, ◌-◌, ◌≤◌, ◌<◌}
 use lib.ListN.{get_or}

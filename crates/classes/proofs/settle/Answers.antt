@@ -1,12 +1,11 @@
 use borrow.Author.Rules.{rules}
 use native.Mathlib.Omega.{arith}
 use mathlib.Core.Path.{◌≡◌, ◌∙◌}
-use Prim.Native.Nat.{◌-◌, ◌^◌, ◌<◌}
-use Rattle.chart.specs.Reading.{chart_in}
+use Prim.Native.Nat.{◌^◌, ◌<◌}
 use Rattle.chart.proofs.Accepted.{accepted, each_step}
 use Rattle.steps.proofs.Stepping.{sized}
 use Rattle.relation.proofs.Cells.{cells_few}
-use Rattle.classes.proofs.Marked.{Going, going_first, going_few, alone_settles, alone_worked, holds_within, going_alone, going_more, done_settles, done_worked}
+use Rattle.classes.proofs.Marked.{going_first, going_few, alone_settles, alone_worked, holds_within, going_alone, going_more, done_settles, done_worked}
 use Rattle.classes.proofs.settle.Goals as goal
 
 pub overflow_mul-n : goal.overflow_mul-n

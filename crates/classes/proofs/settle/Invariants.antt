@@ -1,10 +1,6 @@
-use mathlib.Core.Path.{◌≡◌, ◌∙◌}
-use Prim.Native.Nat.{◌-◌, ◌^◌, ◌<◌}
+use Prim.Native.Nat.{◌-◌}
 use Rattle.chart.specs.Reading.{chart_in}
-use Rattle.chart.proofs.Accepted.{accepted, each_step}
-use Rattle.steps.proofs.Stepping.{sized}
-use Rattle.relation.proofs.Cells.{cells_few}
-use Rattle.classes.proofs.Marked.{Going, going_first, going_few, alone_settles, alone_worked, holds_within, going_alone, going_more, done_settles, done_worked}
+use Rattle.classes.proofs.Marked.{Going}
 use Rattle.classes.proofs.settle.Given as goal
 
 abbrev pub invariant-loop-shared : goal.invariant-loop-shared

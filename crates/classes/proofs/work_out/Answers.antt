@@ -1,4 +1,3 @@
-use borrow.Author.Rules.{rules}
 use native.Mathlib.Omega.{arith}
 use Rattle.chart.proofs.Accepted.{accepted}
 use Rattle.steps.proofs.Filling.{blank, table_few}

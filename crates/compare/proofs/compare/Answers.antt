@@ -1,11 +1,10 @@
-use borrow.Author.Rules.{rules}
 use native.Mathlib.Omega.{arith}
 use mathlib.Core.Path.{sym, subst}
 use lib.Seq.{length-take-le}
 use Rattle.chart.proofs.Exactly.{known_bytes}
 use Rattle.beside.proofs.Formed.{states_together}
 use Rattle.side_by_side.specs.Promise.{JoinPromise}
-use Rattle.compare.proofs.Promise.{Stands, stands_joined, refused_joined, promised}
+use Rattle.compare.proofs.Promise.{stands_joined, refused_joined, promised}
 use Rattle.compare.proofs.compare.Goals as goal
 
 pub slice_bounds-chart-end : goal.slice_bounds-chart-end

@@ -1,16 +1,13 @@
-use borrow.Author.Rules.{rules}
-use borrow.Author.Tests.{not-true, not-false}
 use native.Mathlib.Omega.{arith}
-use Prim.Native.Nat.{◌+◌, ◌*◌, ◌-◌, ◌≤◌, ◌<◌}
+use Prim.Native.Nat.{◌+◌, ◌*◌, ◌<◌}
 use mathlib.Core.Path.{◌≡◌, refl, sym, ◌∙◌}
 use mathlib.Core.Bool.{false≢true}
-use mathlib.Core.Logic.{⊎_elim}
 use lib.ListN.{length, length-set}
 use Rattle.settle.specs.Test.{neg}
 use Rattle.settle.proofs.Test.{neg_i, neg_e}
 use Rattle.beside.proofs.Chosen.{chosen_length}
 use Rattle.compare.specs.Found.{some_zero}
-use Rattle.compare.proofs.Found.{row_inside, Listing, listing_none, listing_room, listing_more, listing_skip, listing_done}
+use Rattle.compare.proofs.Found.{row_inside, listing_none, listing_room, listing_more, listing_skip, listing_done}
 use Rattle.compare.proofs.put_partnerless.Goals as goal
 use Rattle.compare.proofs.put_partnerless.Goals.{then-not-some_zero, else-not-some_zero}
 

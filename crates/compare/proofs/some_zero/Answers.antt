@@ -2,9 +2,7 @@ use borrow.Author.Rules.{rules}
 use borrow.Author.Count.{below_more}
 use borrow.Author.Tests.{eqb-true, eq-eqb}
 use native.Mathlib.Omega.{arith}
-use Prim.Native.Nat.{ℕ, ◌+◌, ◌-◌, ◌≤◌, ◌<◌}
-use mathlib.Core.Path.{◌≡◌, sym}
-use lib.ListN.{get_or}
+use mathlib.Core.Path.{sym}
 use Rattle.settle.proofs.Test.{never, ext, any_i, any_e}
 use Rattle.settle.proofs.Finite.{below_i, below_e}
 use Rattle.compare.proofs.some_zero.Goals as goal

@@ -1,10 +1,6 @@
-use borrow.Author.Count.{below_more}
-use borrow.Author.Tests.{eqb-true, eq-eqb}
 use Prim.Native.Nat.{ℕ, ◌+◌, ◌-◌, ◌≤◌, ◌<◌}
-use mathlib.Core.Path.{◌≡◌, sym}
+use mathlib.Core.Path.{◌≡◌}
 use lib.ListN.{get_or}
-use Rattle.settle.proofs.Test.{never, ext, any_i, any_e}
-use Rattle.settle.proofs.Finite.{below_i, below_e}
 use Rattle.compare.proofs.some_zero.Given as goal
 
 abbrev pub invariant-loop-q : goal.invariant-loop-q

@@ -1,8 +1,7 @@
 use borrow.Author.Rules.{rules}
 use native.Mathlib.Omega.{arith}
-use Prim.Native.Nat.{◌*◌, ◌-◌, ◌≤◌}
 use mathlib.Core.Path.{◌≡◌, ◌∙◌}
-use Rattle.equal.proofs.Counting.{count_to, count_none, count_next, count_all}
+use Rattle.equal.proofs.Counting.{count_none, count_next, count_all}
 use Rattle.equal.proofs.count_pairs.Goals as goal
 
 pub loop-p-init : goal.loop-p-init

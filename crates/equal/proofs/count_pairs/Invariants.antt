@@ -1,6 +1,6 @@
 use Prim.Native.Nat.{◌*◌, ◌-◌, ◌≤◌}
-use mathlib.Core.Path.{◌≡◌, ◌∙◌}
-use Rattle.equal.proofs.Counting.{count_to, count_none, count_next, count_all}
+use mathlib.Core.Path.{◌≡◌}
+use Rattle.equal.proofs.Counting.{count_to}
 use Rattle.equal.proofs.count_pairs.Given as goal
 
 -- the pairs of the rows before p

@@ -1,4 +1,3 @@
-use borrow.Author.Rules.{rules}
 use mathlib.Core.Path.{sym, subst⁻¹, ◌∙◌}
 use Rattle.chart.proofs.Accepted.{accepted}
 use Rattle.equal.specs.Promise.{HowMany}

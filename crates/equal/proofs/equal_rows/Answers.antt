@@ -1,4 +1,3 @@
-use borrow.Author.Rules.{rules}
 use mathlib.Core.Path.{sym, ◌∙◌}
 use Rattle.equal.proofs.Promise.{put_equal, rows_refused, rows_answered}
 use Rattle.equal.proofs.equal_rows.Goals as goal

@@ -1,4 +1,3 @@
-use borrow.Author.Rules.{rules}
 use Rattle.chart.proofs.Accepted.{accepted}
 use Rattle.relation.proofs.Cells.{cells_few}
 use Rattle.equal.proofs.Promise.{settled_equal}

@@ -1,8 +1,6 @@
 use borrow.Author.Rules.{rules}
 use native.Mathlib.Omega.{arith}
-use Prim.Native.Nat.{◌-◌, ◌≤◌}
 use mathlib.Core.Path.{◌≡◌}
-use Rattle.equal.specs.Working.{Put}
 use Rattle.equal.proofs.Copying.{put_none, put_more}
 use Rattle.equal.proofs.put_rows.Goals as goal
 

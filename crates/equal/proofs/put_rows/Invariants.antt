@@ -1,7 +1,5 @@
 use Prim.Native.Nat.{◌-◌, ◌≤◌}
-use mathlib.Core.Path.{◌≡◌}
 use Rattle.equal.specs.Working.{Put}
-use Rattle.equal.proofs.Copying.{put_none, put_more}
 use Rattle.equal.proofs.put_rows.Given as goal
 
 abbrev pub invariant-loop-at : goal.invariant-loop-at

@@ -1,16 +1,13 @@
 use borrow.Author.Rules.{rules}
 use native.Mathlib.Omega.{arith}
-use Prim.Native.Nat.{ℕ, ◌-◌}
-use mathlib.Core.Path.{◌≡◌, ap, ◌∙◌}
-use mathlib.Core.List.{List}
-use lib.ListN.{length}
-use Rattle.chart.specs.Chart.{Step}
+use Prim.Native.Nat.{ℕ}
+use mathlib.Core.Path.{ap}
 use Rattle.chart.proofs.Accepted.{accepted, each_step}
 use Rattle.words.specs.Words.{member}
 use Rattle.steps.proofs.Stepping.{sized}
 use Rattle.falls.proofs.Walks.{noted_among}
-use Rattle.falls.proofs.Steps.{Tables, chart_tables}
-use Rattle.falls.proofs.Rounding.{Rounding, rounding_first, rounding_more, rounding_few, rounding_done}
+use Rattle.falls.proofs.Steps.{chart_tables}
+use Rattle.falls.proofs.Rounding.{rounding_first, rounding_more, rounding_few, rounding_done}
 use Rattle.falls.proofs.settle.Goals as goal
 
 pub fill-requires : goal.fill-requires

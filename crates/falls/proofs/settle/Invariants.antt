@@ -1,14 +1,10 @@
-use Prim.Native.Nat.{ℕ, ◌-◌}
-use mathlib.Core.Path.{◌≡◌, ap, ◌∙◌}
+use Prim.Native.Nat.{◌-◌}
+use mathlib.Core.Path.{◌≡◌}
 use mathlib.Core.List.{List}
 use lib.ListN.{length}
 use Rattle.chart.specs.Chart.{Step}
-use Rattle.chart.proofs.Accepted.{accepted, each_step}
-use Rattle.words.specs.Words.{member}
-use Rattle.steps.proofs.Stepping.{sized}
-use Rattle.falls.proofs.Walks.{noted_among}
-use Rattle.falls.proofs.Steps.{Tables, chart_tables}
-use Rattle.falls.proofs.Rounding.{Rounding, rounding_first, rounding_more, rounding_few, rounding_done}
+use Rattle.falls.proofs.Steps.{Tables}
+use Rattle.falls.proofs.Rounding.{Rounding}
 use Rattle.falls.proofs.settle.Given as goal
 
 abbrev pub invariant-loop-changed : goal.invariant-loop-changed

@@ -1,5 +1,4 @@
 use native.Mathlib.Omega.{arith}
-use borrow.Author.Rules.{rules}
 use Rattle.chart.proofs.Accepted.{accepted}
 use Rattle.steps.proofs.Filling.{blank, table_few}
 use Rattle.falls.proofs.work_out.Goals as goal

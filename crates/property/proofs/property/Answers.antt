@@ -1,5 +1,4 @@
 use mathlib.Core.Path.{sym, ◌∙◌}
-use borrow.Author.Rules.{rules}
 use Rattle.sheet.proofs.Accepted.{formed, refused_exactly, accepted_short}
 use Rattle.steps.specs.Table.{ReadAs}
 use Rattle.property.proofs.SheetPromise.{promise_chart_refused, promise_sheet_refused, promise_accepted}

@@ -1,8 +1,7 @@
 use borrow.Author.Rules.{rules}
 use borrow.Author.Count.{below_more}
 use native.Mathlib.Omega.{arith}
-use Prim.Native.Nat.{ℕ, ◌+◌, ◌*◌, ◌-◌, ◌≤◌, ◌<◌}
-use Rattle.ranges.specs.Sources.{source_at}
+use Prim.Native.Nat.{◌+◌, ◌*◌}
 use Rattle.ranges.proofs.past.Goals as goal
 
 pub loop-i-init : goal.loop-i-init

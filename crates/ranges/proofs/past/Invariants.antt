@@ -1,5 +1,4 @@
-use borrow.Author.Count.{below_more}
-use Prim.Native.Nat.{ℕ, ◌+◌, ◌*◌, ◌-◌, ◌≤◌, ◌<◌}
+use Prim.Native.Nat.{ℕ, ◌-◌, ◌≤◌, ◌<◌}
 use Rattle.ranges.specs.Sources.{source_at}
 use Rattle.ranges.proofs.past.Given as goal
 

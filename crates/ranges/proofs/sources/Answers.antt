@@ -1,8 +1,7 @@
 use borrow.Author.Rules.{rules}
 use native.Mathlib.Omega.{arith}
 use mathlib.Core.Path.{◌≡◌, refl}
-use Prim.Native.Nat.{◌-◌, ◌≤◌}
-use lib.ListN.{length, length-set}
+use lib.ListN.{length-set}
 use Rattle.ranges.specs.Sources.{Sources, Stands}
 use Rattle.ranges.proofs.Counting.{sources_none, sources_more, sources_all, sorted_by}
 use Rattle.ranges.proofs.sources.Goals as goal

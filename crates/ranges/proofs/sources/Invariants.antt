@@ -1,8 +1,7 @@
-use mathlib.Core.Path.{◌≡◌, refl}
+use mathlib.Core.Path.{◌≡◌}
 use Prim.Native.Nat.{◌-◌, ◌≤◌}
-use lib.ListN.{length, length-set}
-use Rattle.ranges.specs.Sources.{Sources, Stands}
-use Rattle.ranges.proofs.Counting.{sources_none, sources_more, sources_all, sorted_by}
+use lib.ListN.{length}
+use Rattle.ranges.specs.Sources.{Sources}
 use Rattle.ranges.proofs.sources.Given as goal
 
 abbrev pub invariant-loop-s : goal.invariant-loop-s

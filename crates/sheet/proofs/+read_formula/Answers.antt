@@ -1,9 +1,8 @@
-use Prim.Native.Nat.{ℕ, ◌+◌, ◌-◌, ◌*◌, ◌/◌, ◌%◌, ◌≤◌, ◌<◌}
+use Prim.Native.Nat.{◌+◌, ◌-◌, ◌*◌, ◌/◌, ◌%◌, ◌≤◌, ◌<◌}
 use mathlib.Core.Path.{sym, ◌∙◌}
 use mathlib.Core.Bool.{false≢true}
 use native.Mathlib.Omega.{arith}
 use lib.ListN.{take}
-use borrow.Author.Rules.{rules}
 use Rattle.sheet.proofs.Parsing.{parse_none}
 use Rattle.sheet.proofs.Reading.{read_fewer, read_further}
 use Rattle.sheet.proofs.Reading.{absent_read, leaf_read, first_read, second_read, above_read, action_absent_read, one_read, label_read}

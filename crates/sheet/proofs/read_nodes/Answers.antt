@@ -4,7 +4,6 @@ use native.Mathlib.Omega.{arith}
 use mathlib.Core.List.{List}
 use lib.ListN.{length, take}
 use borrow.Author.Tests.{le-ltb, lt-ltb, le-leb, lt-leb}
-use borrow.Author.Rules.{rules}
 use Rattle.sheet.specs.Reading.{read_nodes, parse, packed}
 use Rattle.sheet.specs.declared.SheetRead.TheVariants as Read
 use Rattle.sheet.proofs.Beginning.{first_bytes_parse}

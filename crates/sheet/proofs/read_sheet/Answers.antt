@@ -3,7 +3,6 @@ use borrow.Author.Tests.{le-ltb, lt-ltb, le-leb, lt-leb, eq-eqb, ne_eqb}
 use Rattle.sheet.specs.Reading.{read_sheet}
 use Rattle.sheet.specs.declared.SheetRead.TheVariants as Read
 use Rattle.sheet.proofs.Accepted.{read_exactly}
-use borrow.Author.Rules.{rules}
 use Rattle.sheet.proofs.read_sheet.Goals as goal
 
 pub returns-then-bytes-le0-clause-value : goal.returns-then-bytes-le0-clause-value

@@ -1,10 +1,6 @@
-use borrow.Author.Rules.{rules}
 use native.Mathlib.Omega.{arith}
-use Prim.Native.Nat.{◌+◌, ◌-◌}
-use mathlib.Core.Path.{◌≡◌, refl, sym, ◌∙◌}
-use mathlib.Core.Bool.{false}
-use lib.ListN.{length, drop}
-use Rattle.short_form.proofs.Scan.{scan, scan_none, scan_here, scan_next, scan_sheet}
+use mathlib.Core.Path.{refl, sym, ◌∙◌}
+use Rattle.short_form.proofs.Scan.{scan_none, scan_here, scan_next, scan_sheet}
 use Rattle.short_form.proofs.first_variable.Goals as goal
 
 pub loop-at-init : goal.loop-at-init

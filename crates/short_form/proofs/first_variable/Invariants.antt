@@ -1,9 +1,9 @@
 -- The loop's invariant: what is passed and what the rest of the bytes says are what the whole says.
 use Prim.Native.Nat.{◌+◌, ◌-◌}
-use mathlib.Core.Path.{◌≡◌, refl, sym, ◌∙◌}
+use mathlib.Core.Path.{◌≡◌}
 use mathlib.Core.Bool.{false}
 use lib.ListN.{length, drop}
-use Rattle.short_form.proofs.Scan.{scan, scan_none, scan_here, scan_next, scan_sheet}
+use Rattle.short_form.proofs.Scan.{scan}
 use Rattle.short_form.proofs.first_variable.Given as goal
 
 abbrev pub invariant-loop-at : goal.invariant-loop-at

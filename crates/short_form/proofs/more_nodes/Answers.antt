@@ -1,4 +1,3 @@
-use borrow.Author.Rules.{rules}
 use Rattle.short_form.proofs.more_nodes.Goals as goal
 
 pub returns : goal.returns

@@ -1,10 +1,8 @@
-use borrow.Author.Rules.{rules}
 use native.Mathlib.Omega.{arith}
-use Prim.Native.Nat.{ℕ, ◌+◌, ◌<◌}
+use Prim.Native.Nat.{◌+◌, ◌<◌}
 use mathlib.Core.Path.{◌≡◌, ap}
-use mathlib.Core.Bool.{true}
 use lib.ListN.{length}
-use Rattle.sheet.specs.Formula.{Formula, nodes, variable_free}
+use Rattle.sheet.specs.Formula.{nodes}
 use Rattle.sheet.specs.Layout.{encode}
 use Rattle.lent.proofs.Lent.{promise_refused, promise_short, promise_written}
 use Rattle.short_form.specs.ShortForm.{short_form, kind_written}

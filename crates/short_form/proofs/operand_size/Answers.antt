@@ -1,4 +1,3 @@
-use borrow.Author.Rules.{rules}
 use Rattle.short_form.proofs.Pieces.{operand_length}
 use Rattle.short_form.proofs.operand_size.Goals as goal
 

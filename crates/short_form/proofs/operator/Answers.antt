@@ -1,4 +1,3 @@
-use borrow.Author.Rules.{rules}
 use Rattle.short_form.proofs.operator.Goals as goal
 
 pub returns : goal.returns

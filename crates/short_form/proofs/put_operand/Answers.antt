@@ -1,5 +1,4 @@
 use borrow.Author.Tests.{eq-eqb, ne_eqb}
-use borrow.Author.Rules.{rules}
 use Rattle.short_form.proofs.put_operand.Goals as goal
 
 pub returns-then-name-eq0 : goal.returns-then-name-eq0

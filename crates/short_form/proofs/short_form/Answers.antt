@@ -1,4 +1,3 @@
-use borrow.Author.Rules.{rules}
 use mathlib.Core.Path.{refl, sym, ap, ◌∙◌}
 use Rattle.lent.proofs.Lent.{promise_refused}
 use Rattle.short_form.specs.Promise.{form_of_chart, outcome_of}

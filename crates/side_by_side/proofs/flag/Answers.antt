@@ -1,9 +1,7 @@
 use borrow.Author.Rules.{rules}
 use native.Mathlib.Omega.{arith}
-use Prim.Native.Nat.{◌+◌, ◌-◌, ◌≤◌}
+use Prim.Native.Nat.{◌+◌}
 use mathlib.Core.Path.{◌≡◌}
-use Rattle.chart.specs.Reading.{bytes_at}
-use Rattle.side_by_side.specs.Table.{Flagged}
 use Rattle.side_by_side.proofs.Table.{flagged_none, flagged_more}
 use Rattle.side_by_side.proofs.flag.Goals as goal
 

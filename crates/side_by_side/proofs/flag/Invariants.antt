@@ -1,8 +1,6 @@
-use Prim.Native.Nat.{◌+◌, ◌-◌, ◌≤◌}
-use mathlib.Core.Path.{◌≡◌}
+use Prim.Native.Nat.{◌-◌, ◌≤◌}
 use Rattle.chart.specs.Reading.{bytes_at}
 use Rattle.side_by_side.specs.Table.{Flagged}
-use Rattle.side_by_side.proofs.Table.{flagged_none, flagged_more}
 use Rattle.side_by_side.proofs.flag.Given as goal
 
 abbrev pub invariant-loop-i : goal.invariant-loop-i

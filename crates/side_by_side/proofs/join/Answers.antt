@@ -1,4 +1,3 @@
-use borrow.Author.Rules.{rules}
 use mathlib.Core.Path.{sym, ◌∙◌}
 use Rattle.side_by_side.proofs.Promise.{refused_first, refused_second, both_accepted}
 use Rattle.side_by_side.proofs.join.Goals as goal

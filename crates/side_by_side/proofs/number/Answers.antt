@@ -1,9 +1,8 @@
 use borrow.Author.Rules.{rules}
 use native.Mathlib.Omega.{arith}
-use Prim.Native.Nat.{◌-◌, ◌≤◌}
 use mathlib.Core.Path.{◌≡◌}
-use lib.ListN.{length, length-set}
-use Rattle.side_by_side.proofs.Table.{Numbering, numbering_none, numbering_few, numbering_more, numbering_skip, numbering_all}
+use lib.ListN.{length-set}
+use Rattle.side_by_side.proofs.Table.{numbering_none, numbering_few, numbering_more, numbering_skip, numbering_all}
 use Rattle.side_by_side.proofs.number.Goals as goal
 use Rattle.side_by_side.proofs.number.Goals.{then-table-code-eq1, else-table-code-eq1}
 

@@ -1,8 +1,7 @@
 use Prim.Native.Nat.{◌-◌, ◌≤◌}
 use mathlib.Core.Path.{◌≡◌}
-use mathlib.Core.Logic.{⊎_elim}
-use lib.ListN.{length, length-set}
-use Rattle.side_by_side.proofs.Table.{Numbering, numbering_none, numbering_few, numbering_more, numbering_skip, numbering_all}
+use lib.ListN.{length}
+use Rattle.side_by_side.proofs.Table.{Numbering}
 use Rattle.side_by_side.proofs.number.Given as goal
 
 abbrev pub invariant-loop-code : goal.invariant-loop-code

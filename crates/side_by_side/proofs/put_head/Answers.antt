@@ -1,4 +1,3 @@
-use borrow.Author.Rules.{rules}
 use native.Mathlib.Omega.{arith}
 use Rattle.side_by_side.proofs.Written.{head_written}
 use Rattle.side_by_side.proofs.put_head.Goals as goal

@@ -1,12 +1,9 @@
 use borrow.Author.Rules.{rules}
 use native.Mathlib.Omega.{arith}
-use Prim.Native.Nat.{◌+◌, ◌*◌, ◌-◌, ◌≤◌, ◌<◌}
+use Prim.Native.Nat.{◌+◌, ◌*◌}
 use mathlib.Core.Path.{◌≡◌, refl}
-use lib.ListN.{length, get_or, length-set}
-use Rattle.chart.specs.Layout.{StepIn}
-use Rattle.chart.specs.Reading.{step_at}
-use Rattle.text.specs.Text.{placed}
-use Rattle.side_by_side.proofs.Written.{front, front_none, front_stored}
+use lib.ListN.{get_or, length-set}
+use Rattle.side_by_side.proofs.Written.{front_none, front_stored}
 use Rattle.side_by_side.proofs.put_steps.Goals as goal
 
 pub loop-i-init : goal.loop-i-init

@@ -1,11 +1,9 @@
 -- The loop's invariant: the first i triples stand in the buffer.
-use Prim.Native.Nat.{◌+◌, ◌*◌, ◌-◌, ◌≤◌, ◌<◌}
-use mathlib.Core.Path.{◌≡◌, refl}
-use lib.ListN.{length, get_or, length-set}
-use Rattle.chart.specs.Layout.{StepIn}
-use Rattle.chart.specs.Reading.{step_at}
+use Prim.Native.Nat.{◌-◌, ◌≤◌}
+use mathlib.Core.Path.{◌≡◌}
+use lib.ListN.{length}
 use Rattle.text.specs.Text.{placed}
-use Rattle.side_by_side.proofs.Written.{front, front_none, front_stored}
+use Rattle.side_by_side.proofs.Written.{front}
 use Rattle.side_by_side.proofs.put_steps.Given as goal
 
 abbrev pub invariant-loop-i : goal.invariant-loop-i

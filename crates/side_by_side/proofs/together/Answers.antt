@@ -1,14 +1,12 @@
 -- Each way out, by what was judged; at the last, the three parts that were written are the layout.
-use borrow.Author.Rules.{rules}
 use native.Mathlib.Omega.{arith}
 use Prim.Native.Nat.{◌+◌, ◌*◌, ◌≤◌, ◌<◌}
 use mathlib.Core.Path.{◌≡◌, refl, sym}
 use lib.ListN.{length, take, get_or-replicate}
-use Rattle.chart.specs.Layout.{WellFormed}
 use Rattle.chart.specs.Reading.{chart_in}
-use Rattle.chart.proofs.Accepted.{Accepted, accepted}
+use Rattle.chart.proofs.Accepted.{accepted}
 use Rattle.chart.proofs.Exactly.{known_bytes, read_well_formed}
-use Rattle.side_by_side.proofs.Table.{Joint, joint_numbered, joint_taken, joint_room}
+use Rattle.side_by_side.proofs.Table.{joint_numbered, joint_taken, joint_room}
 use Rattle.side_by_side.proofs.Written.{movable}
 use Rattle.side_by_side.proofs.Answered.{head_end, joining_refused, refused_18, refused_19, refused_20, joined}
 use Rattle.side_by_side.proofs.together.Goals as goal

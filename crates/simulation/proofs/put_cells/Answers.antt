@@ -1,9 +1,7 @@
 use borrow.Author.Rules.{rules}
 use native.Mathlib.Omega.{arith}
-use Prim.Native.Nat.{◌-◌, ◌*◌, ◌≤◌}
 use mathlib.Core.Path.{◌≡◌}
 use Rattle.relation.proofs.Cells.{cells_few}
-use Rattle.simulation.specs.Working.{CellsPut}
 use Rattle.simulation.proofs.Cells.{row_ends, cells_none, cells_more, cells_all}
 use Rattle.simulation.proofs.put_cells.Goals as goal
 

@@ -1,8 +1,5 @@
 use Prim.Native.Nat.{◌-◌, ◌*◌, ◌≤◌}
-use mathlib.Core.Path.{◌≡◌}
-use Rattle.relation.proofs.Cells.{cells_few}
 use Rattle.simulation.specs.Working.{CellsPut}
-use Rattle.simulation.proofs.Cells.{row_ends, cells_none, cells_more, cells_all}
 use Rattle.simulation.proofs.put_cells.Given as goal
 
 abbrev pub invariant-loop-p : goal.invariant-loop-p

@@ -1,9 +1,8 @@
 use borrow.Author.Rules.{rules}
 use native.Mathlib.Omega.{arith}
-use Prim.Native.Nat.{◌-◌, ◌/◌, ◌^◌, ◌≤◌}
+use Prim.Native.Nat.{◌/◌, ◌^◌}
 use native.Mathlib.Nat.{mod-lt, zero-lt-suc}
 use mathlib.Core.Path.{◌≡◌}
-use Rattle.simulation.specs.Working.{RowPut}
 use Rattle.simulation.proofs.Cells.{row_none, row_more}
 use Rattle.simulation.proofs.put_row.Goals as goal
 

@@ -1,8 +1,5 @@
-use Prim.Native.Nat.{◌-◌, ◌/◌, ◌^◌, ◌≤◌}
-use native.Mathlib.Nat.{mod-lt, zero-lt-suc}
-use mathlib.Core.Path.{◌≡◌}
+use Prim.Native.Nat.{◌-◌, ◌≤◌}
 use Rattle.simulation.specs.Working.{RowPut}
-use Rattle.simulation.proofs.Cells.{row_none, row_more}
 use Rattle.simulation.proofs.put_row.Given as goal
 
 abbrev pub invariant-loop-q : goal.invariant-loop-q

@@ -1,7 +1,6 @@
 use mathlib.Core.Path.{◌∙◌}
 use native.Mathlib.Omega.{arith}
 use borrow.Author.Tests.{lt-ltb, le-ltb}
-use borrow.Author.Rules.{rules}
 use Rattle.solve.proofs.Solving.{empty_word, full_word}
 use Rattle.solve.proofs.first_set.Goals as goal
 

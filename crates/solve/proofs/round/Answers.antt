@@ -1,5 +1,4 @@
 use native.Mathlib.Omega.{arith}
-use borrow.Author.Rules.{rules}
 use Rattle.evaluate.proofs.Evaluating.{unpacked}
 use Rattle.solve.proofs.round.Goals as goal
 

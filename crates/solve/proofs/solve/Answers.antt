@@ -1,17 +1,12 @@
-use Prim.Native.Nat.{ℕ, ◌-◌}
 use mathlib.Core.Path.{◌≡◌, refl, ◌∙◌}
-use mathlib.Core.List.{List}
 use native.Mathlib.Omega.{arith}
-use borrow.Author.Rules.{rules}
 use lib.ListN.{length}
 use Rattle.chart.specs.Reading.{chart_in}
 use Rattle.chart.proofs.Accepted.{accepted, each_step}
 use Rattle.sheet.specs.Reading.{parse}
 use Rattle.words.proofs.Words.{word_small}
-use Rattle.steps.specs.Table.{Table}
-use Rattle.evaluate.specs.Evaluating.{Remembers, SameRows, formula_of}
-use Rattle.solve.specs.Solving.{application, first_set}
-use Rattle.solve.proofs.Solving.{made_remembers, table_application, Rounding, started, one_more, settled_rounds, never_settled}
+use Rattle.evaluate.specs.Evaluating.{formula_of}
+use Rattle.solve.proofs.Solving.{made_remembers, table_application, started, one_more, settled_rounds, never_settled}
 use Rattle.solve.proofs.solve.Goals as goal
 
 pub fill-requires : goal.fill-requires
@@ -30,8 +25,7 @@ round-next-requires c =
 pub loop-next-init : goal.loop-next-init
 loop-next-init c =
     let a = c.args in
-    let made = c.fill.new.into in
-    (
+    let made = c.fill.new.into in (
       refl,
       (made, c.fill.ensures, c.round-next.ensures.kept.0),
       c.round-next.ensures.kept.1,

@@ -1,15 +1,12 @@
 use Prim.Native.Nat.{ℕ, ◌-◌}
-use mathlib.Core.Path.{◌≡◌, refl, ◌∙◌}
+use mathlib.Core.Path.{◌≡◌}
 use mathlib.Core.List.{List}
 use lib.ListN.{length}
 use Rattle.chart.specs.Reading.{chart_in}
-use Rattle.chart.proofs.Accepted.{accepted, each_step}
-use Rattle.sheet.specs.Reading.{parse}
-use Rattle.words.proofs.Words.{word_small}
 use Rattle.steps.specs.Table.{Table}
-use Rattle.evaluate.specs.Evaluating.{Remembers, SameRows, formula_of}
+use Rattle.evaluate.specs.Evaluating.{Remembers, SameRows}
 use Rattle.solve.specs.Solving.{application, first_set}
-use Rattle.solve.proofs.Solving.{made_remembers, table_application, Rounding, started, one_more, settled_rounds, never_settled}
+use Rattle.solve.proofs.Solving.{Rounding}
 use Rattle.solve.proofs.solve.Given as goal
 
 -- the rows stay those of the table that was made

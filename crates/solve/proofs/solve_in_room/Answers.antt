@@ -1,5 +1,4 @@
 use native.Mathlib.Omega.{arith}
-use borrow.Author.Rules.{rules}
 use Rattle.chart.proofs.Accepted.{accepted}
 use Rattle.steps.proofs.Filling.{blank}
 use Rattle.solve.proofs.Solving.{work_few}

@@ -1,7 +1,7 @@
 -- The measure is x: the call is for its tenth.
 use native.Mathlib.Omega.{arith}
 use mathlib.Core.Path.{◌≡◌}
-use Prim.Native.Nat.{ℕ, ◌≤◌, ◌<◌, ◌+◌, ◌/◌, ◌%◌}
+use Prim.Native.Nat.{◌≤◌, ◌+◌, ◌/◌, ◌%◌}
 use lib.ListN.{length, length-set}
 use Rattle.text.specs.Text.{decimal}
 use Rattle.text.proofs.Laws.{decimal_small, decimal_step, width_small, width_step, placed_one, placed_more}

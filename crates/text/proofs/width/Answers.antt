@@ -1,8 +1,4 @@
 use native.Mathlib.Omega.{arith}
-use Prim.Native.Nat.{◌+◌}
-use mathlib.Core.Path.{◌≡◌}
-use lib.ListN.{length}
-use Rattle.text.specs.Text.{decimal}
 use Rattle.text.proofs.Laws.{width_small, width_step, width_some, width_most}
 use Rattle.text.proofs.width.Goals as goal
 

@@ -3,7 +3,6 @@ use Prim.Native.Nat.{◌+◌}
 use mathlib.Core.Path.{◌≡◌}
 use lib.ListN.{length}
 use Rattle.text.specs.Text.{decimal}
-use Rattle.text.proofs.Laws.{width_small, width_step, width_some, width_most}
 use Rattle.text.proofs.width.Given as goal
 
 abbrev pub invariant-loop-rest : goal.invariant-loop-rest

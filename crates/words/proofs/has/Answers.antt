@@ -1,5 +1,4 @@
 use native.Mathlib.Omega.{arith}
-use borrow.Author.Rules.{rules}
 use mathlib.Core.Path.{sym}
 use Rattle.words.proofs.Words.{no_member}
 use Rattle.words.proofs.has.Goals as goal

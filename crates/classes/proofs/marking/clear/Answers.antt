@@ -1,8 +1,6 @@
 use borrow.Author.Rules.{rules}
 use native.Mathlib.Omega.{arith}
 use mathlib.Core.Path.{◌≡◌}
-use Prim.Native.Nat.{◌-◌, ◌≤◌}
-use Rattle.classes.specs.Marking.{Cleared}
 use Rattle.classes.proofs.Putting.{cleared_none, cleared_more}
 use Rattle.classes.proofs.marking.clear.Goals as goal
 

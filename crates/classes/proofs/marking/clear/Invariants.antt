@@ -1,7 +1,5 @@
-use mathlib.Core.Path.{◌≡◌}
 use Prim.Native.Nat.{◌-◌, ◌≤◌}
 use Rattle.classes.specs.Marking.{Cleared}
-use Rattle.classes.proofs.Putting.{cleared_none, cleared_more}
 use Rattle.classes.proofs.marking.clear.Given as goal
 
 abbrev pub invariant-loop-y : goal.invariant-loop-y

@@ -1,13 +1,11 @@
 use borrow.Author.Rules.{rules}
 use native.Mathlib.Omega.{arith}
-use Prim.Native.Nat.{ℕ, ◌+◌, ◌^◌, ◌<◌}
+use Prim.Native.Nat.{◌+◌}
 use mathlib.Core.Path.{◌≡◌, refl, sym, ◌∙◌}
-use mathlib.Core.Bool.{So}
 use lib.Count.{count_trailing_zeros}
-use lib.ListN.{length, length-set}
-use Rattle.words.specs.Words.{member}
+use lib.ListN.{length-set}
 use Rattle.steps.proofs.Bits.{lowest_lt, lowest_in, rest_in, rest_less}
-use Rattle.classes.proofs.Putting.{marked, marked_none, marked_walked}
+use Rattle.classes.proofs.Putting.{marked_none, marked_walked}
 use Rattle.classes.proofs.marking.put_mark.Goals as goal
 
 pub loop-left-init : goal.loop-left-init

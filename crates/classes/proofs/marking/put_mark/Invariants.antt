@@ -1,11 +1,9 @@
 use Prim.Native.Nat.{ℕ, ◌+◌, ◌^◌, ◌<◌}
-use mathlib.Core.Path.{◌≡◌, refl, sym, ◌∙◌}
+use mathlib.Core.Path.{◌≡◌}
 use mathlib.Core.Bool.{So}
-use lib.Count.{count_trailing_zeros}
-use lib.ListN.{length, length-set}
+use lib.ListN.{length}
 use Rattle.words.specs.Words.{member}
-use Rattle.steps.proofs.Bits.{lowest_lt, lowest_in, rest_in, rest_less}
-use Rattle.classes.proofs.Putting.{marked, marked_none, marked_walked}
+use Rattle.classes.proofs.Putting.{marked}
 use Rattle.classes.proofs.marking.put_mark.Given as goal
 
 -- what is marked or still to come is the answer

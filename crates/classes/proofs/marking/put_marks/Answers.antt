@@ -1,15 +1,13 @@
 use borrow.Author.Rules.{rules}
 use native.Mathlib.Omega.{arith}
 use mathlib.Core.Path.{◌≡◌, sym, ◌∙◌}
-use Prim.Native.Nat.{ℕ, ◌^◌, ◌<◌}
+use Prim.Native.Nat.{◌^◌, ◌<◌}
 use lib.ListN.{get_or}
 use lib.Pow.{pow_mono}
-use Rattle.settle.specs.Test.{both, either}
-use Rattle.words.specs.Words.{member}
 use Rattle.steps.proofs.Bits.{lowest_below, rest_less}
 use Rattle.steps.proofs.Walked.{bits_none, bits_walked}
 use Rattle.classes.specs.Marking.{is_new, shares_row}
-use Rattle.classes.proofs.Putting.{new_shared, shared_first, Marking, marking_first, marking_walked, marking_done}
+use Rattle.classes.proofs.Putting.{new_shared, shared_first, marking_first, marking_walked, marking_done}
 use Rattle.classes.proofs.marking.put_marks.Goals as goal
 
 pub loop-left-init : goal.loop-left-init

@@ -1,13 +1,10 @@
-use mathlib.Core.Path.{◌≡◌, sym, ◌∙◌}
+use mathlib.Core.Path.{◌≡◌}
 use Prim.Native.Nat.{ℕ, ◌^◌, ◌<◌}
 use lib.ListN.{get_or}
-use lib.Pow.{pow_mono}
 use Rattle.settle.specs.Test.{both, either}
 use Rattle.words.specs.Words.{member}
-use Rattle.steps.proofs.Bits.{lowest_below, rest_less}
-use Rattle.steps.proofs.Walked.{bits_none, bits_walked}
 use Rattle.classes.specs.Marking.{is_new, shares_row}
-use Rattle.classes.proofs.Putting.{new_shared, shared_first, Marking, marking_first, marking_walked, marking_done}
+use Rattle.classes.proofs.Putting.{Marking}
 use Rattle.classes.proofs.marking.put_marks.Given as goal
 
 abbrev pub invariant-loop-left : goal.invariant-loop-left

@@ -1,12 +1,10 @@
 use borrow.Author.Rules.{rules}
 use native.Mathlib.Omega.{arith}
 use mathlib.Core.Path.{◌≡◌, refl, sym, ◌∙◌}
-use Prim.Native.Nat.{ℕ, ◌^◌, ◌<◌}
-use lib.ListN.{length, get_or}
-use Rattle.relation.specs.Rows.{Within}
+use lib.ListN.{get_or}
 use Rattle.steps.proofs.Bits.{lowest_lt, rest_less}
-use Rattle.classes.specs.Splitting.{Sharing, undivided}
-use Rattle.classes.proofs.Undivided.{keeps_sharing, coming, coming_none, coming_walked}
+use Rattle.classes.specs.Splitting.{undivided}
+use Rattle.classes.proofs.Undivided.{keeps_sharing, coming_none, coming_walked}
 use Rattle.classes.proofs.splitting.round.Goals as goal
 
 pub loop-left-init : goal.loop-left-init

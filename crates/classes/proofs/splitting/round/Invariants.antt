@@ -1,10 +1,9 @@
-use mathlib.Core.Path.{◌≡◌, refl, sym, ◌∙◌}
+use mathlib.Core.Path.{◌≡◌}
 use Prim.Native.Nat.{ℕ, ◌^◌, ◌<◌}
 use lib.ListN.{length, get_or}
 use Rattle.relation.specs.Rows.{Within}
-use Rattle.steps.proofs.Bits.{lowest_lt, rest_less}
 use Rattle.classes.specs.Splitting.{Sharing, undivided}
-use Rattle.classes.proofs.Undivided.{keeps_sharing, coming, coming_none, coming_walked}
+use Rattle.classes.proofs.Undivided.{coming}
 use Rattle.classes.proofs.splitting.round.Given as goal
 
 abbrev pub invariant-loop-left : goal.invariant-loop-left

@@ -2,10 +2,8 @@ use borrow.Author.Rules.{rules}
 use native.Mathlib.Omega.{arith}
 use native.Mathlib.Nat.{mul-le-mul_right}
 use mathlib.Core.Path.{◌≡◌}
-use Prim.Native.Nat.{◌+◌, ◌-◌, ◌^◌, ◌≤◌, ◌<◌}
+use Prim.Native.Nat.{◌+◌, ◌^◌, ◌<◌}
 use lib.ListN.{length}
-use Rattle.relation.specs.Rows.{Keeps}
-use Rattle.classes.specs.Splitting.{undivided}
 use Rattle.classes.proofs.Undivided.{keeps_sharing, row_there, able_is, able_small, undivided_none, undivided_more}
 use Rattle.classes.proofs.splitting.split_by.Goals as goal
 

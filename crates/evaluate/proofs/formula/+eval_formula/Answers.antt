@@ -2,7 +2,6 @@ use Prim.Native.Nat.{ℕ, ◌+◌, ◌-◌, ◌/◌, ◌%◌, ◌<◌, ◌^◌}
 use mathlib.Core.Path.{refl, sym, ◌∙◌}
 use native.Mathlib.Omega.{arith}
 use lib.ListN.{get_or}
-use borrow.Author.Rules.{rules}
 use Rattle.evaluate.specs.Evaluating.{read_at, formula_of}
 use Rattle.evaluate.proofs.Operands.{node_inside, action_inside, action_known}
 use Rattle.evaluate.proofs.Evaluating.{word_below, next_fewer, some_node, operand_fewer, leaf_next, leaf_value}

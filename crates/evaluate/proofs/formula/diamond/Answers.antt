@@ -1,5 +1,4 @@
 use native.Mathlib.Omega.{arith}
-use borrow.Author.Rules.{rules}
 use lib.ListN.{length-set}
 use Rattle.words.proofs.Words.{word_small}
 use Rattle.evaluate.proofs.Stepped.{serves_row, remembers_more}

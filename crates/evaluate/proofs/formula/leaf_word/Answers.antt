@@ -1,5 +1,4 @@
 use borrow.Author.Tests.{eq-eqb, ne_eqb}
-use borrow.Author.Rules.{rules}
 use Rattle.evaluate.proofs.formula.leaf_word.Goals as goal
 
 pub returns-then-node-eq0 : goal.returns-then-node-eq0

@@ -1,11 +1,9 @@
 use borrow.Author.Rules.{rules}
 use native.Mathlib.Omega.{arith}
-use Prim.Native.Nat.{ℕ, ◌+◌, ◌-◌, ◌*◌, ◌≤◌}
-use mathlib.Core.Path.{◌≡◌, ◌∙◌}
-use lib.ListN.{length}
+use Prim.Native.Nat.{ℕ}
+use mathlib.Core.Path.{◌≡◌}
 use lib.Pow.{pow_pos}
-use Rattle.steps.specs.Walk.{leads}
-use Rattle.falls.proofs.Striking.{row_ends, row_at, place_in, gathered, strike_able, ByFirst, by_none, by_more, able_done}
+use Rattle.falls.proofs.Striking.{row_ends, row_at, place_in, gathered, strike_able, by_none, by_more, able_done}
 use Rattle.falls.proofs.round.first_round.Goals as goal
 
 pub loop-a-init : goal.loop-a-init

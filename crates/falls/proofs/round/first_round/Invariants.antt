@@ -1,9 +1,8 @@
-use Prim.Native.Nat.{ℕ, ◌+◌, ◌-◌, ◌*◌, ◌≤◌}
-use mathlib.Core.Path.{◌≡◌, ◌∙◌}
+use Prim.Native.Nat.{◌+◌, ◌-◌, ◌*◌, ◌≤◌}
+use mathlib.Core.Path.{◌≡◌}
 use lib.ListN.{length}
-use lib.Pow.{pow_pos}
 use Rattle.steps.specs.Walk.{leads}
-use Rattle.falls.proofs.Striking.{row_ends, row_at, place_in, gathered, strike_able, ByFirst, by_none, by_more, able_done}
+use Rattle.falls.proofs.Striking.{ByFirst}
 use Rattle.falls.proofs.round.first_round.Given as goal
 
 -- those able to the first actions have kept those able to them

@@ -1,11 +1,8 @@
 use borrow.Author.Rules.{rules}
 use native.Mathlib.Omega.{arith}
-use Prim.Native.Nat.{ℕ, ◌+◌, ◌^◌, ◌<◌}
+use Prim.Native.Nat.{◌+◌}
 use mathlib.Core.Path.{◌≡◌, sym, ◌∙◌}
-use mathlib.Core.Bool.{So}
-use lib.ListN.{length, get_or}
-use Rattle.settle.specs.Test.{both, either}
-use Rattle.words.specs.Words.{member}
+use lib.ListN.{get_or}
 use Rattle.steps.proofs.Bits.{lowest_lt, lowest_in, rest_in, rest_less}
 use Rattle.steps.proofs.Walked.{bits_none, bits_walked}
 use Rattle.falls.specs.Round.{apart}

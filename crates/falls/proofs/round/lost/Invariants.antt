@@ -1,13 +1,10 @@
 use Prim.Native.Nat.{ℕ, ◌+◌, ◌^◌, ◌<◌}
-use mathlib.Core.Path.{◌≡◌, sym, ◌∙◌}
+use mathlib.Core.Path.{◌≡◌}
 use mathlib.Core.Bool.{So}
 use lib.ListN.{length, get_or}
 use Rattle.settle.specs.Test.{both, either}
 use Rattle.words.specs.Words.{member}
-use Rattle.steps.proofs.Bits.{lowest_lt, lowest_in, rest_in, rest_less}
-use Rattle.steps.proofs.Walked.{bits_none, bits_walked}
 use Rattle.falls.specs.Round.{apart}
-use Rattle.falls.proofs.Walks.{none_yet}
 use Rattle.falls.proofs.round.lost.Given as goal
 
 -- what is found lost or still to come is the answer

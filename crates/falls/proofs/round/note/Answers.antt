@@ -1,13 +1,11 @@
 use borrow.Author.Rules.{rules}
 use native.Mathlib.Omega.{arith}
-use Prim.Native.Nat.{ℕ, ◌-◌, ◌^◌, ◌≤◌, ◌<◌}
 use mathlib.Core.Path.{◌≡◌, sym, ap, ◌∙◌}
 use mathlib.Core.Bool.{Bool}
 use lib.Count.{count_trailing_zeros}
 use lib.Dec.{eqb}
-use lib.ListN.{length, get_or}
-use Rattle.settle.specs.Test.{pick, both, either}
-use Rattle.words.specs.Words.{member}
+use lib.ListN.{get_or}
+use Rattle.settle.specs.Test.{pick}
 use Rattle.words.proofs.Words.{none_member}
 use Rattle.steps.proofs.Bits.{lowest_lt, rest_less}
 use Rattle.steps.proofs.Walked.{bits_none, bits_walked}

@@ -1,16 +1,9 @@
-use Prim.Native.Nat.{ℕ, ◌-◌, ◌^◌, ◌≤◌, ◌<◌}
-use mathlib.Core.Path.{◌≡◌, sym, ap, ◌∙◌}
-use mathlib.Core.Bool.{Bool}
-use lib.Count.{count_trailing_zeros}
-use lib.Dec.{eqb}
+use Prim.Native.Nat.{ℕ, ◌^◌, ◌<◌}
+use mathlib.Core.Path.{◌≡◌}
 use lib.ListN.{length, get_or}
 use Rattle.settle.specs.Test.{pick, both, either}
 use Rattle.words.specs.Words.{member}
-use Rattle.words.proofs.Words.{none_member}
-use Rattle.steps.proofs.Bits.{lowest_lt, rest_less}
-use Rattle.steps.proofs.Walked.{bits_none, bits_walked}
 use Rattle.falls.specs.Round.{fallen, smaller}
-use Rattle.falls.proofs.Walks.{none_yet, noted_more, noted_length, noted_done}
 use Rattle.falls.proofs.round.note.Given as goal
 
 -- the states that are found or still to come are the answer; what fell is noted for those that are found

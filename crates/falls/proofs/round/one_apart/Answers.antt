@@ -1,4 +1,3 @@
-use borrow.Author.Rules.{rules}
 use borrow.Author.Tests.{eq-eqb, ne_eqb}
 use Rattle.words.proofs.Words.{shl_one}
 use Rattle.falls.proofs.round.one_apart.Goals as goal

@@ -1,14 +1,9 @@
 use borrow.Author.Rules.{rules}
 use native.Mathlib.Omega.{arith}
-use Prim.Native.Nat.{ℕ, ◌^◌, ◌<◌}
 use mathlib.Core.Path.{◌≡◌}
-use mathlib.Core.List.{List}
-use lib.ListN.{length, get_or}
 use Rattle.steps.proofs.Bits.{lowest_lt, lowest_in, rest_in, rest_less}
-use Rattle.relation.specs.Rows.{Within}
-use Rattle.falls.specs.Round.{survives, Fallen}
 use Rattle.falls.proofs.Walks.{noted_among}
-use Rattle.falls.proofs.Striking.{gathered, ByMembers, members_none, members_more}
+use Rattle.falls.proofs.Striking.{gathered, members_none, members_more}
 use Rattle.falls.proofs.round.round.Goals as goal
 
 pub loop-left-init : goal.loop-left-init
@@ -37,8 +32,7 @@ loop-left-smaller c = rest_less c.loop-left.left (search rules)
 
 pub loop-left-preserved : goal.loop-left-preserved
 loop-left-preserved c =
-    let l = c.loop-left in
-    (
+    let l = c.loop-left in (
       omega (arith, rest_less l.left (search rules), l.invariant.0),
       c.strike_into.ensures.next_len,
       c.strike_into.ensures.keeps.within,

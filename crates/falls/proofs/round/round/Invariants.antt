@@ -2,11 +2,9 @@ use Prim.Native.Nat.{ℕ, ◌^◌, ◌<◌}
 use mathlib.Core.Path.{◌≡◌}
 use mathlib.Core.List.{List}
 use lib.ListN.{length, get_or}
-use Rattle.steps.proofs.Bits.{lowest_lt, lowest_in, rest_in, rest_less}
 use Rattle.relation.specs.Rows.{Within}
 use Rattle.falls.specs.Round.{survives, Fallen}
-use Rattle.falls.proofs.Walks.{noted_among}
-use Rattle.falls.proofs.Striking.{gathered, ByMembers, members_none, members_more}
+use Rattle.falls.proofs.Striking.{ByMembers}
 use Rattle.falls.proofs.round.round.Given as goal
 
 -- whatever the members that are left have struck then is the answer

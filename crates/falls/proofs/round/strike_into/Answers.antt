@@ -1,11 +1,7 @@
 use borrow.Author.Rules.{rules}
 use native.Mathlib.Omega.{arith}
-use Prim.Native.Nat.{◌+◌, ◌-◌, ◌*◌, ◌≤◌}
 use mathlib.Core.Path.{◌≡◌}
-use lib.ListN.{length, get_or}
-use Rattle.words.specs.Words.{member}
-use Rattle.falls.specs.Round.{keeps_step}
-use Rattle.falls.proofs.Striking.{row_ends, row_at, ByFirst, by_none, by_more, survives_done}
+use Rattle.falls.proofs.Striking.{row_ends, row_at, by_none, by_more, survives_done}
 use Rattle.falls.proofs.round.strike_into.Goals as goal
 
 pub loop-a-init : goal.loop-a-init

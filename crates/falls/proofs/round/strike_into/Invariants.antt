@@ -3,7 +3,7 @@ use mathlib.Core.Path.{◌≡◌}
 use lib.ListN.{length, get_or}
 use Rattle.words.specs.Words.{member}
 use Rattle.falls.specs.Round.{keeps_step}
-use Rattle.falls.proofs.Striking.{row_ends, row_at, ByFirst, by_none, by_more, survives_done}
+use Rattle.falls.proofs.Striking.{ByFirst}
 use Rattle.falls.proofs.round.strike_into.Given as goal
 
 -- the first actions are done

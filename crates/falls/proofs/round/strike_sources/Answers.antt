@@ -1,4 +1,3 @@
-use borrow.Author.Rules.{rules}
 use Rattle.falls.proofs.Striking.{strike_none, strike_word}
 use Rattle.falls.proofs.round.strike_sources.Goals as goal
 

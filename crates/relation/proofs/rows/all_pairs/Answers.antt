@@ -1,9 +1,9 @@
 use borrow.Author.Rules.{rules}
 use native.Mathlib.Omega.{arith}
-use Prim.Native.Nat.{◌-◌, ◌≤◌}
-use lib.ListN.{length, length-set}
+use Prim.Native.Nat.{◌≤◌}
+use lib.ListN.{length-set}
 use mathlib.Core.Path.{◌≡◌, ◌∙◌}
-use Rattle.relation.proofs.Keeping.{Filled, filled_none, filled_more, filled_holds}
+use Rattle.relation.proofs.Keeping.{filled_none, filled_more, filled_holds}
 use Rattle.relation.proofs.rows.all_pairs.Goals as goal
 
 pub loop-p-init : goal.loop-p-init

@@ -1,7 +1,7 @@
 use Prim.Native.Nat.{◌-◌, ◌≤◌}
-use lib.ListN.{length, length-set}
-use mathlib.Core.Path.{◌≡◌, ◌∙◌}
-use Rattle.relation.proofs.Keeping.{Filled, filled_none, filled_more, filled_holds}
+use lib.ListN.{length}
+use mathlib.Core.Path.{◌≡◌}
+use Rattle.relation.proofs.Keeping.{Filled}
 use Rattle.relation.proofs.rows.all_pairs.Given as goal
 
 abbrev pub invariant-loop-p : goal.invariant-loop-p

@@ -1,11 +1,8 @@
 use borrow.Author.Rules.{rules}
 use native.Mathlib.Omega.{arith}
-use Prim.Native.Nat.{ℕ, ◌^◌, ◌<◌}
 use mathlib.Core.Path.{◌≡◌, refl, sym, ◌∙◌}
-use lib.ListN.{length, get_or, length-set}
-use Rattle.words.specs.Words.{member}
+use lib.ListN.{get_or, length-set}
 use Rattle.steps.proofs.Bits.{lowest_lt, rest_less}
-use Rattle.relation.specs.Rows.{struck}
 use Rattle.relation.proofs.Keeping.{struck_none, struck_walked}
 use Rattle.relation.proofs.rows.strike.Goals as goal
 

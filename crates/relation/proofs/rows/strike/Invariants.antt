@@ -1,10 +1,8 @@
 use Prim.Native.Nat.{ℕ, ◌^◌, ◌<◌}
-use mathlib.Core.Path.{◌≡◌, refl, sym, ◌∙◌}
-use lib.ListN.{length, get_or, length-set}
+use mathlib.Core.Path.{◌≡◌}
+use lib.ListN.{length, get_or}
 use Rattle.words.specs.Words.{member}
-use Rattle.steps.proofs.Bits.{lowest_lt, rest_less}
 use Rattle.relation.specs.Rows.{struck}
-use Rattle.relation.proofs.Keeping.{struck_none, struck_walked}
 use Rattle.relation.proofs.rows.strike.Given as goal
 
 -- what is struck or still to come is the answer

@@ -1,4 +1,3 @@
-use borrow.Author.Rules.{rules}
 use Rattle.steps.proofs.table.add_directed.Goals as goal
 
 pub returns-then-back : goal.returns-then-back

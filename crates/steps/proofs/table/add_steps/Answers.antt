@@ -3,12 +3,9 @@ use native.Mathlib.Decide.{dec_lt}
 use native.Mathlib.Nat.{mul-le-mul_right}
 use native.Mathlib.Omega.{arith}
 use mathlib.Core.Path.{◌≡◌, refl, ◌∙◌}
-use Prim.Native.Nat.{ℕ, ◌+◌, ◌*◌, ◌-◌, ◌≤◌, ◌<◌}
-use lib.ListN.{length}
-use Rattle.chart.specs.Reading.{step_at, steps_at}
+use Prim.Native.Nat.{ℕ, ◌+◌, ◌*◌}
 use Rattle.chart.proofs.Accepted.{accepted}
 use Rattle.chart.proofs.Steps.{steps_at_snoc}
-use Rattle.steps.specs.Table.{Table, directed}
 use Rattle.steps.proofs.Filling.{table_directed}
 use Rattle.steps.proofs.table.add_steps.Goals as goal
 

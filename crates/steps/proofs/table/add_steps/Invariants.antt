@@ -1,13 +1,8 @@
-use native.Mathlib.Decide.{dec_lt}
-use native.Mathlib.Nat.{mul-le-mul_right}
-use mathlib.Core.Path.{◌≡◌, refl, ◌∙◌}
+use mathlib.Core.Path.{◌≡◌}
 use Prim.Native.Nat.{ℕ, ◌+◌, ◌*◌, ◌-◌, ◌≤◌, ◌<◌}
 use lib.ListN.{length}
 use Rattle.chart.specs.Reading.{step_at, steps_at}
-use Rattle.chart.proofs.Accepted.{accepted}
-use Rattle.chart.proofs.Steps.{steps_at_snoc}
 use Rattle.steps.specs.Table.{Table, directed}
-use Rattle.steps.proofs.Filling.{table_directed}
 use Rattle.steps.proofs.table.add_steps.Given as goal
 
 -- the loop knows m by where the triples begin

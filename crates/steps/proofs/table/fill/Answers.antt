@@ -2,11 +2,8 @@ use borrow.Author.Rules.{rules}
 use native.Mathlib.Decide.{dec_lt}
 use native.Mathlib.Omega.{arith}
 use mathlib.Core.Path.{◌≡◌, refl, ◌∙◌}
-use Prim.Native.Nat.{◌+◌, ◌*◌, ◌-◌, ◌≤◌, ◌<◌}
-use lib.ListN.{length}
-use Rattle.chart.specs.Reading.{step_at, steps_at}
+use Rattle.chart.specs.Reading.{steps_at}
 use Rattle.chart.proofs.Accepted.{accepted}
-use Rattle.steps.specs.Table.{Table, directed}
 use Rattle.steps.proofs.Filling.{table_none}
 use Rattle.steps.proofs.table.fill.Goals as goal
 

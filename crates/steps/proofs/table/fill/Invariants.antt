@@ -1,11 +1,8 @@
-use native.Mathlib.Decide.{dec_lt}
-use mathlib.Core.Path.{◌≡◌, refl, ◌∙◌}
+use mathlib.Core.Path.{◌≡◌}
 use Prim.Native.Nat.{◌+◌, ◌*◌, ◌-◌, ◌≤◌, ◌<◌}
 use lib.ListN.{length}
 use Rattle.chart.specs.Reading.{step_at, steps_at}
-use Rattle.chart.proofs.Accepted.{accepted}
 use Rattle.steps.specs.Table.{Table, directed}
-use Rattle.steps.proofs.Filling.{table_none}
 use Rattle.steps.proofs.table.fill.Given as goal
 
 -- all triples are in whose source is below s

@@ -1,13 +1,8 @@
 use borrow.Author.Rules.{rules}
 use native.Mathlib.Omega.{arith}
-use Prim.Native.Nat.{ℕ, ◌+◌, ◌^◌, ◌<◌}
 use mathlib.Core.Path.{◌≡◌, refl, sym, ◌∙◌}
-use mathlib.Core.Bool.{So}
-use lib.ListN.{length}
-use Rattle.settle.specs.Test.{either}
 use Rattle.settle.proofs.Test.{either_false}
 use Rattle.words.specs.Words.{member}
-use Rattle.steps.specs.Walk.{leads}
 use Rattle.steps.proofs.Bits.{lowest_lt, lowest_in, rest_in, rest_less}
 use Rattle.steps.proofs.Leads.{leads_none, one_walked}
 use Rattle.steps.proofs.walk.gather.Goals as goal
