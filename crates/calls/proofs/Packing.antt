@@ -4,7 +4,6 @@ use mathlib.Core.Path.{◌≡◌}
 use native.Mathlib.Omega.{arith}
 use Rattle.refusal.specs.Refusal.{input_number}
 use Rattle.refusal.specs.declared.Input.{Input}
-use Rattle.refusal.specs.declared.Input.TheVariants as Input
 use Rattle.refusal.specs.declared.Refusal.{Refusal}
 use Rattle.calls.specs.Packing.{packed, Parts}
 

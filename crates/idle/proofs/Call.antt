@@ -8,7 +8,6 @@ use borrow.Author.Tests.{eq-eqb, ne_eqb}
 use Rattle.settle.specs.Test.{pick}
 use Rattle.refusal.specs.Refusal.{input_number}
 use Rattle.refusal.specs.declared.Input.{Input}
-use Rattle.refusal.specs.declared.Input.TheVariants as Input
 use Rattle.refusal.specs.declared.Refusal.{Refusal}
 use Rattle.nearness.specs.Relation.{Near, Simulating}
 use Rattle.relation.specs.Promise.{Saying, Relations, MatrixPromise}

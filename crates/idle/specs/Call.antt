@@ -3,7 +3,6 @@
 use Rattle.std.specs.Prelude.{ℕ, ◌/◌, ◌%◌, List, eqb, get_or}
 use Rattle.settle.specs.Test.{pick}
 use Rattle.refusal.specs.declared.Input.{Input}
-use Rattle.refusal.specs.declared.Input.TheVariants as Input
 use Rattle.refusal.specs.declared.Refusal.{Refusal}
 use Rattle.relation.specs.declared.MatrixAnswer.{MatrixAnswer}
 use Rattle.relation.specs.declared.MatrixAnswer.TheVariants as Matrices

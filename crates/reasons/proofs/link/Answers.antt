@@ -1,9 +1,7 @@
-use borrow.Author.Rules.{rules}
 use native.Mathlib.Omega.{arith}
-use Prim.Native.Nat.{ℕ, ◌+◌, ◌-◌, ◌≤◌, ◌<◌}
+use Prim.Native.Nat.{ℕ, ◌+◌, ◌-◌}
 use mathlib.Core.Path.{◌≡◌, sym, ◌∙◌}
-use lib.ListN.{length, get_or, length-set}
-use Rattle.reasons.specs.Linked.{Linked}
+use lib.ListN.{length-set}
 use Rattle.reasons.proofs.Linked.{linked_more}
 use Rattle.reasons.proofs.link.Goals as goal
 

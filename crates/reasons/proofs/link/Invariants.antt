@@ -1,8 +1,7 @@
-use Prim.Native.Nat.{ℕ, ◌+◌, ◌-◌, ◌≤◌, ◌<◌}
-use mathlib.Core.Path.{◌≡◌, sym, ◌∙◌}
-use lib.ListN.{length, get_or, length-set}
+use Prim.Native.Nat.{◌≤◌}
+use mathlib.Core.Path.{◌≡◌}
+use lib.ListN.{length}
 use Rattle.reasons.specs.Linked.{Linked}
-use Rattle.reasons.proofs.Linked.{linked_more}
 use Rattle.reasons.proofs.link.Given as goal
 
 abbrev pub invariant-loop-y : goal.invariant-loop-y

@@ -1,13 +1,9 @@
-use borrow.Author.Rules.{rules}
 use native.Mathlib.Omega.{arith}
-use Prim.Native.Nat.{ℕ, ◌+◌, ◌-◌, ◌*◌, ◌<◌}
-use mathlib.Core.Path.{◌≡◌, refl, sym, ◌∙◌}
-use lib.ListN.{length, get_or-replicate}
-use Rattle.ranges.specs.Sources.{steps_by}
+use Prim.Native.Nat.{ℕ, ◌+◌, ◌*◌}
+use mathlib.Core.Path.{refl, sym, ◌∙◌}
+use lib.ListN.{get_or-replicate}
 use Rattle.relation.proofs.Cells.{cell_in, cells_few}
 use Rattle.reason.specs.Line.{lines_in}
-use Rattle.choice.specs.Choice.{mark_in}
-use Rattle.reasons.specs.Begun.{Begun, KeptFrom}
 use Rattle.reasons.proofs.Linked.{linked_none}
 use Rattle.reasons.proofs.Begun.{begun_none, begun_all}
 use Rattle.reasons.proofs.put_list.Goals as goal

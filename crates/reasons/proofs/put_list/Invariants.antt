@@ -1,14 +1,11 @@
 -- The loop's invariant: the list is begun up to the mark.
-use Prim.Native.Nat.{ℕ, ◌+◌, ◌-◌, ◌*◌, ◌<◌}
-use mathlib.Core.Path.{◌≡◌, refl, sym, ◌∙◌}
-use lib.ListN.{length, get_or-replicate}
+use Prim.Native.Nat.{◌-◌, ◌*◌, ◌<◌}
+use mathlib.Core.Path.{◌≡◌}
+use lib.ListN.{length}
 use Rattle.ranges.specs.Sources.{steps_by}
-use Rattle.relation.proofs.Cells.{cell_in, cells_few}
 use Rattle.reason.specs.Line.{lines_in}
 use Rattle.choice.specs.Choice.{mark_in}
 use Rattle.reasons.specs.Begun.{Begun, KeptFrom}
-use Rattle.reasons.proofs.Linked.{linked_none}
-use Rattle.reasons.proofs.Begun.{begun_none, begun_all}
 use Rattle.reasons.proofs.put_list.Given as goal
 
 abbrev pub invariant-loop-mark : goal.invariant-loop-mark

@@ -1,14 +1,6 @@
-use borrow.Author.Rules.{rules}
 use native.Mathlib.Omega.{arith}
-use Prim.Native.Nat.{◌+◌, ◌-◌, ◌*◌, ◌≤◌, ◌<◌}
-use mathlib.Core.Path.{◌≡◌, refl, sym, ◌∙◌}
-use lib.ListN.{length, get_or}
-use Rattle.ranges.specs.Sources.{steps_by}
+use mathlib.Core.Path.{refl, sym, ◌∙◌}
 use Rattle.relation.proofs.Cells.{row_in, column_in, pair_cell, cells_few}
-use Rattle.reason.specs.Line.{lines_in}
-use Rattle.choice.specs.Choice.{mark_in}
-use Rattle.reasons.specs.Linked.{Following}
-use Rattle.reasons.specs.Begun.{Begun, KeptFrom}
 use Rattle.reasons.proofs.Begun.{begun_following, begun_mark, begun_put, room_for}
 use Rattle.reasons.proofs.put_mark.Goals as goal
 

@@ -1,14 +1,11 @@
 -- The loop's invariant: the list is begun up to the cell y, which bears the mark, or is none.
-use Prim.Native.Nat.{◌+◌, ◌-◌, ◌*◌, ◌≤◌, ◌<◌}
-use mathlib.Core.Path.{◌≡◌, refl, sym, ◌∙◌}
+use Prim.Native.Nat.{◌-◌, ◌*◌, ◌≤◌, ◌<◌}
+use mathlib.Core.Path.{◌≡◌}
 use lib.ListN.{length, get_or}
 use Rattle.ranges.specs.Sources.{steps_by}
-use Rattle.relation.proofs.Cells.{row_in, column_in, pair_cell, cells_few}
 use Rattle.reason.specs.Line.{lines_in}
 use Rattle.choice.specs.Choice.{mark_in}
-use Rattle.reasons.specs.Linked.{Following}
 use Rattle.reasons.specs.Begun.{Begun, KeptFrom}
-use Rattle.reasons.proofs.Begun.{begun_following, begun_mark, begun_put, room_for}
 use Rattle.reasons.proofs.put_mark.Given as goal
 
 abbrev pub invariant-loop-y : goal.invariant-loop-y

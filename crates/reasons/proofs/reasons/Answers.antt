@@ -1,8 +1,5 @@
-use borrow.Author.Rules.{rules}
 use native.Mathlib.Omega.{arith}
-use mathlib.Core.Path.{◌≡◌, sym, subst, ◌∙◌}
-use Rattle.chart.specs.Reading.{read_chart}
-use Rattle.chart.specs.declared.ChartRead.TheVariants as Read
+use mathlib.Core.Path.{sym, subst, ◌∙◌}
 use Rattle.chart.proofs.Accepted.{accepted}
 use Rattle.ranges.proofs.Ranges.{stands_chart}
 use Rattle.marks.specs.Promise.{MarksPromise}

@@ -1,7 +1,5 @@
-use borrow.Author.Rules.{rules}
 use native.Mathlib.Omega.{arith}
 use native.Mathlib.Nat.{mul-le-mul_right}
-use Prim.Native.Nat.{◌-◌, ◌*◌, ◌≤◌}
 use Rattle.relation.proofs.Cells.{cells_few}
 use Rattle.reason.specs.Line.{lines_in}
 use Rattle.reason.proofs.Bytes.{lines_length}

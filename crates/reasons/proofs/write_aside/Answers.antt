@@ -1,15 +1,9 @@
-use borrow.Author.Rules.{rules}
 use native.Mathlib.Omega.{arith}
-use Prim.Native.Nat.{◌*◌, ◌≤◌}
 use mathlib.Core.Path.{sym}
-use lib.ListN.{length}
 use lib.Seq.{length-take-le}
-use Rattle.ranges.specs.Sources.{steps_by}
 use Rattle.reason.specs.Line.{lines_in}
-use Rattle.reason.specs.Own.{OwnList}
 use Rattle.reason.proofs.Bytes.{lines_length}
 use Rattle.reason.proofs.Few.{pairs_few}
-use Rattle.choice.specs.Choice.{mark_in}
 use Rattle.reasons.proofs.Begun.{own_fits}
 use Rattle.reasons.proofs.Owed.{reasons_given}
 use Rattle.reasons.proofs.write_aside.Goals as goal

@@ -1,11 +1,11 @@
 use native.Mathlib.Omega.{arith}
-use Prim.Native.Nat.{◌+◌, ◌-◌, ◌*◌, ◌≤◌, ◌<◌}
+use Prim.Native.Nat.{◌+◌, ◌-◌, ◌*◌, ◌≤◌}
 use mathlib.Core.Path.{◌≡◌, refl, ◌∙◌}
 use lib.ListN.{length}
 use Rattle.relation.proofs.Cells.{cell_in}
 use Rattle.relation.specs.Promise.{byte_at}
-use Rattle.text.proofs.Laws.{Put, put_then, placed_none}
-use Rattle.report.specs.Text.{row_text, pair_text}
+use Rattle.text.proofs.Laws.{put_then, placed_none}
+use Rattle.report.specs.Text.{row_text}
 use Rattle.report.proofs.Laws.{row_none, row_step, row_longer, row_within}
 use Rattle.report.proofs.put_row.Goals as goal
 

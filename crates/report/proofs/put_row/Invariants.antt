@@ -1,12 +1,10 @@
 -- The loop's invariant: the lines of p with the k states above it stand in the buffer.
-use Prim.Native.Nat.{◌+◌, ◌-◌, ◌*◌, ◌≤◌, ◌<◌}
-use mathlib.Core.Path.{◌≡◌, refl, ◌∙◌}
+use Prim.Native.Nat.{◌-◌, ◌≤◌}
+use mathlib.Core.Path.{◌≡◌}
 use lib.ListN.{length}
-use Rattle.relation.proofs.Cells.{cell_in}
 use Rattle.relation.specs.Promise.{byte_at}
-use Rattle.text.proofs.Laws.{Put, put_then, placed_none}
-use Rattle.report.specs.Text.{row_text, pair_text}
-use Rattle.report.proofs.Laws.{row_none, row_step, row_longer, row_within}
+use Rattle.text.proofs.Laws.{Put}
+use Rattle.report.specs.Text.{row_text}
 use Rattle.report.proofs.put_row.Given as goal
 
 abbrev pub invariant-loop-k : goal.invariant-loop-k

@@ -3,7 +3,7 @@ use Prim.Native.Nat.{◌+◌, ◌-◌, ◌≤◌}
 use mathlib.Core.Path.{◌≡◌, refl, ◌∙◌}
 use lib.ListN.{length}
 use Rattle.relation.specs.Promise.{byte_at}
-use Rattle.text.proofs.Laws.{Put, put_then, placed_none}
+use Rattle.text.proofs.Laws.{put_then, placed_none}
 use Rattle.report.specs.Text.{row_text, rows_text}
 use Rattle.report.proofs.Laws.{rows_none, rows_step, rows_longer, rows_within}
 use Rattle.report.proofs.put_rows.Goals as goal

@@ -1,11 +1,10 @@
 -- The loop's invariant: the lines of the first p states stand in the buffer.
-use Prim.Native.Nat.{◌+◌, ◌-◌, ◌≤◌}
-use mathlib.Core.Path.{◌≡◌, refl, ◌∙◌}
+use Prim.Native.Nat.{◌-◌, ◌≤◌}
+use mathlib.Core.Path.{◌≡◌}
 use lib.ListN.{length}
 use Rattle.relation.specs.Promise.{byte_at}
-use Rattle.text.proofs.Laws.{Put, put_then, placed_none}
-use Rattle.report.specs.Text.{row_text, rows_text}
-use Rattle.report.proofs.Laws.{rows_none, rows_step, rows_longer, rows_within}
+use Rattle.text.proofs.Laws.{Put}
+use Rattle.report.specs.Text.{rows_text}
 use Rattle.report.proofs.put_rows.Given as goal
 
 abbrev pub invariant-loop-p : goal.invariant-loop-p

@@ -1,5 +1,4 @@
 use mathlib.Core.Path.{refl}
-use borrow.Author.Rules.{rules}
 use Rattle.viewer.proofs.put_solved.Goals as goal
 
 pub returns : goal.returns

@@ -1,4 +1,3 @@
-use borrow.Author.Rules.{rules}
 use Rattle.calls.proofs.Packable.{both_packable}
 use Rattle.viewer.proofs.rebatelion_both_solutions.Goals as goal
 

@@ -1,4 +1,3 @@
-use borrow.Author.Rules.{rules}
 use Rattle.calls.proofs.Packable.{check_packable}
 use Rattle.viewer.proofs.rebatelion_check_reasons.Goals as goal
 

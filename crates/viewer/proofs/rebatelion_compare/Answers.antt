@@ -1,4 +1,3 @@
-use borrow.Author.Rules.{rules}
 use Rattle.calls.proofs.Packable.{compare_packable}
 use Rattle.viewer.proofs.rebatelion_compare.Goals as goal
 

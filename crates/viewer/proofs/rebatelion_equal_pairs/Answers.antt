@@ -1,4 +1,3 @@
-use borrow.Author.Rules.{rules}
 use Rattle.calls.proofs.Packable.{pairs_packable}
 use Rattle.viewer.proofs.rebatelion_equal_pairs.Goals as goal
 

@@ -1,4 +1,3 @@
-use borrow.Author.Rules.{rules}
 use Rattle.calls.proofs.Packable.{matrix_packable}
 use Rattle.viewer.proofs.rebatelion_marks.Goals as goal
 

@@ -1,4 +1,3 @@
-use borrow.Author.Rules.{rules}
 use Rattle.calls.proofs.Packable.{property_packable}
 use Rattle.viewer.proofs.rebatelion_property.Goals as goal
 

@@ -1,4 +1,3 @@
-use borrow.Author.Rules.{rules}
 use Rattle.calls.proofs.Packable.{short_form_packable}
 use Rattle.viewer.proofs.rebatelion_short_form.Goals as goal
 
