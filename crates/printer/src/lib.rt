@@ -5,8 +5,13 @@
 ghost use Rattle.std.specs.Prelude.{length};
 ghost use Rattle.printer.specs.Filled.{KeptBefore, Within};
 
+use arrayvec::ArrayString;
 use lent::LentAnswer;
-use libc::STDOUT_FILENO;
+use std::fmt::Write;
+use std::fs::File;
+use std::io;
+use std::io::Read;
+use std::rt::Files;
 
 // How many bytes stand in a buffer's start; or the file cannot be read.
 #[derive(Drop)]
@@ -16,69 +21,85 @@ pub enum Filled {
 }
 
 // Reads on from a place until the buffer is full or the file ends. The bytes before the place stay, so pieces stand one after another.
-fn fill(fd: i32, bytes: &mut [u8], at: usize) -> Filled
+fn fill<R: Read>(file: &mut R, bytes: &mut [u8], at: usize) -> Filled
     ensures within { Within at (length bytes.new) result }
     ensures kept_before { KeptBefore at bytes.old bytes.new }
 {
     if bytes.len() <= at {
         return Filled::Bytes(bytes.len());
     }
-    let got = libc::read(fd, &mut bytes[at..]);
-    if got < 0 {
-        return Filled::Unreadable;
-    }
-    let more = io::count(got, &bytes[at..]);
-    if more == 0 {
-        return Filled::Bytes(at);
-    }
-    fill(fd, bytes, at + more)
-}
-
-// A text that cannot be written is told on standard error; a program has no exit status to tell it by.
-fn print(text: &[u8]) {
-    if !io::write_all(STDOUT_FILENO, text) {
-        os::fail(b"rebatelion: cannot write");
+    match file.read(&mut bytes[at..]) {
+        Err(_) => Filled::Unreadable,
+        Ok(0) => Filled::Bytes(at),
+        Ok(more) => fill(file, bytes, at + more),
     }
 }
 
-fn no_file() {
-    print(b"no file\n");
+// std puts the number of an error after its words.
+fn without_number(text: &str) -> &str {
+    match text.split_once(" (os error ") {
+        Some((words, _)) => words,
+        None => text,
+    }
 }
 
-fn print_start(text: &[u8], size: usize) {
+fn tell(rt: &impl Eprint, error: io::Error) {
+    let mut text = ArrayString::<128>::new();
+    let _ = write!(text, "{error}");
+    let reason = without_number(text.as_str());
+    let _ = eprintln!(rt; "rebatelion: cannot write: {reason}");
+}
+
+// A text that cannot be written is told on standard error.
+fn print(rt: &(impl Print + Eprint), text: &[u8]) {
+    if let Err(error) = rt.write_all(text) {
+        tell(rt, error);
+    }
+}
+
+fn no_file(rt: &(impl Print + Eprint)) {
+    print(rt, b"no file\n");
+}
+
+fn print_start(rt: &(impl Print + Eprint), text: &[u8], size: usize) {
     if size <= text.len() {
-        print(&text[..size]);
+        print(rt, &text[..size]);
     }
 }
 
 // The report has room for the longest text, so it is never refused.
-fn print_report(bytes: &[u8], size: usize) {
+fn print_report(rt: &(impl Print + Eprint), bytes: &[u8], size: usize) {
     let mut text = [0u8; 20480];
     if bytes.len() < size {
         return;
     }
     match report::report(&bytes[..size], &mut text) {
-        LentAnswer::Written(length) => print_start(&text, length),
+        LentAnswer::Written(length) => print_start(rt, &text, length),
         LentAnswer::Refused(_) => {}
     }
 }
 
 // The longest chart has 3,172 bytes: more are read, so that a longer file is refused as it should be.
-fn print_file(fd: i32) {
-    let mut bytes = io::buffer();
-    match fill(fd, &mut bytes, 0) {
-        Filled::Unreadable => no_file(),
-        Filled::Bytes(size) => print_report(&bytes, size),
+fn print_file(rt: &(impl Print + Eprint), file: &mut impl Read) {
+    let mut bytes = [0u8; 4096];
+    match fill(file, &mut bytes, 0) {
+        Filled::Unreadable => no_file(rt),
+        Filled::Bytes(size) => print_report(rt, &bytes, size),
+    }
+}
+
+// The file of this name, where it can be opened. std opens only a name that is text in UTF-8.
+fn open<R: Files>(rt: &R, path: &[u8]) -> Option<R::File> {
+    match str::from_utf8(path) {
+        Ok(name) => File::open(rt, name).ok(),
+        Err(_) => None,
     }
 }
 
 // Prints the report on the chart in the file of this name; `no file` where it cannot be opened or read.
-pub fn run(path: &[u8]) {
-    let fd = os::open_read(path);
-    if fd < 0 {
-        no_file();
-        return;
+pub fn run<R: Files + Print + Eprint>(rt: &R, path: &[u8]) {
+    match open(rt, path) {
+        Some(mut file) => print_file(rt, &mut file),
+        None => no_file(rt),
     }
-    print_file(fd);
-    libc::close(fd);
 }

@@ -1,24 +1,24 @@
 // What the program prints for several files, held to the file stdout.
 #![tactic(auto)]
 
-use libc::STDOUT_FILENO;
+use std::io;
+use std::rt::Files;
 
-fn show(title: &[u8], path: &[u8]) {
-    io::write_all(STDOUT_FILENO, b"== ");
-    io::write_all(STDOUT_FILENO, title);
-    io::write_all(STDOUT_FILENO, b"\n");
-    printer::run(path);
+fn show<R: Files + Print + Eprint>(rt: &R, title: &str, path: &str) -> io::Result<()> {
+    println!(rt; "== {title}")?;
+    printer::run(rt, path.as_bytes());
+    Ok(())
 }
 
-fn main() {
-    show(b"chart L", b"l.chart");
-    show(b"chart E", b"e.chart");
-    show(b"chart E with its last triple twice", b"e_twice.chart");
-    show(b"an empty file", b"empty.chart");
-    show(b"no file", b"missing.chart");
-    show(b"a folder", b"folder");
-    show(b"one state", b"one_state.chart");
-    show(b"the longest chart", b"longest.chart");
-    show(b"one byte longer", b"longer.chart");
-    show(b"far longer than is read", b"far_longer.chart");
+fn main(rt: HostRuntime) -> io::Result<()> {
+    show(&rt, "chart L", "l.chart")?;
+    show(&rt, "chart E", "e.chart")?;
+    show(&rt, "chart E with its last triple twice", "e_twice.chart")?;
+    show(&rt, "an empty file", "empty.chart")?;
+    show(&rt, "no file", "missing.chart")?;
+    show(&rt, "a folder", "folder")?;
+    show(&rt, "one state", "one_state.chart")?;
+    show(&rt, "the longest chart", "longest.chart")?;
+    show(&rt, "one byte longer", "longer.chart")?;
+    show(&rt, "far longer than is read", "far_longer.chart")
 }
