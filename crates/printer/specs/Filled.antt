@@ -1,5 +1,6 @@
--- What reading on from a place of a buffer leaves: the bytes before it, and no more bytes than the buffer has.
-use Rattle.std.specs.Prelude.{ℕ, ◌≤◌, min, ◌≡◌, List, take}
+-- What reading on from a place of a buffer leaves: the bytes before it, what the reader gave after them, and no more bytes than the buffer has.
+use Rattle.std.specs.Prelude.{ℕ, ◌≤◌, min, ◌≡◌, ◌⊎◌, List, take, drop, Option}
+use Rattle.std.specs.Io.KnownBytes.{Consumes, IsAtEnd}
 use Rattle.printer.specs.declared.Filled.{Filled}
 use Rattle.printer.specs.declared.Filled.TheVariants.{Bytes, Unreadable}
 
@@ -10,3 +11,13 @@ KeptBefore at old new = take at new ≡ take at old
 abbrev pub Within : ℕ → ℕ → Filled → Type 0
 Within at room (Bytes size) = (size ≤ room) × (min at room ≤ size)
 Within at room Unreadable = Unit {0}
+
+-- of a reader whose bytes are known: those from the place on are the next that it had, in their order, and it has the rest
+abbrev pub TakenFrom : Option (List ℕ) → Option (List ℕ) → ℕ → List ℕ → Filled → Type 0
+TakenFrom before after at bytes (Bytes size) = Consumes before after (drop at (take size bytes))
+TakenFrom before after at bytes Unreadable = Unit {0}
+
+-- nothing is left unread but where the buffer is full
+abbrev pub ToTheEnd : Option (List ℕ) → ℕ → Filled → Type 0
+ToTheEnd after room (Bytes size) = (size ≡ room) ⊎ IsAtEnd after
+ToTheEnd after room Unreadable = Unit {0}

@@ -3,7 +3,7 @@
 #![tactic(auto)]
 
 ghost use Rattle.std.specs.Prelude.{length};
-ghost use Rattle.printer.specs.Filled.{KeptBefore, Within};
+ghost use Rattle.printer.specs.Filled.{KeptBefore, TakenFrom, ToTheEnd, Within};
 
 use arrayvec::ArrayString;
 use lent::LentAnswer;
@@ -24,6 +24,8 @@ pub enum Filled {
 fn fill<R: Read>(file: &mut R, bytes: &mut [u8], at: usize) -> Filled
     ensures within { Within at (length bytes.new) result }
     ensures kept_before { KeptBefore at bytes.old bytes.new }
+    ensures taken { TakenFrom (R.remaining file.old) (R.remaining file.new) at bytes.new result }
+    ensures to_the_end { ToTheEnd (R.remaining file.new) (length bytes.new) result }
 {
     if bytes.len() <= at {
         return Filled::Bytes(bytes.len());
