@@ -1,16 +1,18 @@
-// The thin part of the program: a file's bytes are read, the report on them is made by proved code, and it is written once. No contract can say
-// what is read or written: what the reads put into the buffer, and in which pieces, is run from outside.
+// The thin part of the program: a file's bytes are read, the report on them is made by proved code, and it is written once. The contracts speak of
+// any reader and any writer, as far as it is known what they give and hold; what the system's own do is run from outside.
 #![tactic(auto)]
 
-ghost use Rattle.std.specs.Prelude.{length};
+ghost use Rattle.std.specs.Prelude.{length, OnOk};
+ghost use Rattle.std.specs.Io.KnownBytes.{Appends};
 ghost use Rattle.printer.specs.Filled.{KeptBefore, TakenFrom, ToTheEnd, Within};
+ghost use Rattle.printer.specs.Printed.{PrintsFile, Reports, no_file_text};
 
 use arrayvec::ArrayString;
 use lent::LentAnswer;
-use std::fmt::Write;
+use std::fmt::Write as FormatWrite;
 use std::fs::File;
 use std::io;
-use std::io::Read;
+use std::io::{Read, Write};
 use std::rt::Files;
 
 // How many bytes stand in a buffer's start; or the file cannot be read.
@@ -52,41 +54,31 @@ fn tell(rt: &impl Eprint, error: io::Error) {
     let _ = eprintln!(rt; "rebatelion: cannot write: {reason}");
 }
 
-// A text that cannot be written is told on standard error.
-fn print(rt: &(impl Print + Eprint), text: &[u8]) {
-    if let Err(error) = rt.write_all(text) {
-        tell(rt, error);
-    }
-}
-
-fn no_file(rt: &(impl Print + Eprint)) {
-    print(rt, b"no file\n");
-}
-
-fn print_start(rt: &(impl Print + Eprint), text: &[u8], size: usize) {
-    if size <= text.len() {
-        print(rt, &text[..size]);
-    }
+fn no_file<W: Write>(out: &mut W) -> io::Result<()>
+    ensures { OnOk result (Appends (W.contents out.old) (W.contents out.new) no_file_text) }
+{
+    out.write_all(b"no file\n")
 }
 
 // The report has room for the longest text, so it is never refused.
-fn print_report(rt: &(impl Print + Eprint), bytes: &[u8], size: usize) {
+fn print_report<W: Write>(out: &mut W, bytes: &[u8]) -> io::Result<()>
+    ensures { OnOk result (Reports bytes.now (W.contents out.old) (W.contents out.new)) }
+{
     let mut text = [0u8; 20480];
-    if bytes.len() < size {
-        return;
-    }
-    match report::report(&bytes[..size], &mut text) {
-        LentAnswer::Written(length) => print_start(rt, &text, length),
-        LentAnswer::Refused(_) => {}
+    match report::report(bytes, &mut text) {
+        LentAnswer::Written(length) => out.write_all(&text[..length]),
+        LentAnswer::Refused(_) => unreachable!(),
     }
 }
 
 // The longest chart has 3,172 bytes: more are read, so that a longer file is refused as it should be.
-fn print_file(rt: &(impl Print + Eprint), file: &mut impl Read) {
+fn print_file<R: Read, W: Write>(file: &mut R, out: &mut W) -> io::Result<()>
+    ensures { OnOk result (PrintsFile (R.remaining file.old) (W.contents out.old) (W.contents out.new)) }
+{
     let mut bytes = [0u8; 4096];
     match fill(file, &mut bytes, 0) {
-        Filled::Unreadable => no_file(rt),
-        Filled::Bytes(size) => print_report(rt, &bytes, size),
+        Filled::Unreadable => no_file(out),
+        Filled::Bytes(size) => print_report(out, &bytes[..size]),
     }
 }
 
@@ -98,10 +90,15 @@ fn open<R: Files>(rt: &R, path: &[u8]) -> Option<R::File> {
     }
 }
 
-// Prints the report on the chart in the file of this name; `no file` where it cannot be opened or read.
+// Prints the report on the chart in the file of this name; `no file` where it cannot be opened or read. A text that cannot be written is told on
+// standard error.
 pub fn run<R: Files + Print + Eprint>(rt: &R, path: &[u8]) {
-    match open(rt, path) {
-        Some(mut file) => print_file(rt, &mut file),
-        None => no_file(rt),
+    let mut out = io::writer(rt);
+    let printed = match open(rt, path) {
+        Some(mut file) => print_file(&mut file, &mut out),
+        None => no_file(&mut out),
+    };
+    if let Err(error) = printed {
+        tell(rt, error);
     }
 }
