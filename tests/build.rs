@@ -14,7 +14,7 @@ fn main() {
     println!("cargo:rerun-if-env-changed=REBATELION_ARCHIVE");
     println!("cargo:rerun-if-changed={}", archive.display());
     println!("cargo:rustc-check-cfg=cfg(linked)");
-    let bytes = std::fs::read(&archive).unwrap_or_else(|e| panic!("{}: {e} (rt lib in crates/viewer makes it)", archive.display()));
+    let bytes = std::fs::read(&archive).unwrap_or_else(|e| panic!("{}: {e} (rt lib there makes it)", archive.display()));
     if machine(&bytes) == Some(std::env::var("CARGO_CFG_TARGET_ARCH").unwrap().as_str()) {
         println!("cargo:rustc-cfg=linked");
         println!("cargo:rustc-link-search=native={}", folder.display());
