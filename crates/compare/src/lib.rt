@@ -132,7 +132,7 @@ fn of_joined(chart: &[u8], first: usize, second: usize, buffer: &mut [u8]) -> Co
 {
     let mut matrix = matrix_room();
     match marks::marks(chart, &mut matrix) {
-        // it never comes to that (the law always-answered of marks)
+        // it never comes to that (the law `always_answered` of marks)
         MatrixAnswer::Refused(r) => CompareAnswer::Refused(r),
         MatrixAnswer::Given(given) => {
             let answer = write(&matrix, first, second, buffer);

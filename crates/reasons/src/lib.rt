@@ -162,7 +162,7 @@ pub fn reasons(chart: &[u8], buffer: &mut [u8]) -> LentAnswer
     let n = shape.n;
     let mut matrix = matrix_room();
     match marks::marks(chart, &mut matrix) {
-        // it never comes to that (the law always-answered of marks)
+        // it never comes to that (the law `always_answered` of marks)
         MatrixAnswer::Refused(r) => LentAnswer::Refused(r),
         MatrixAnswer::Given(_) => write(chart, 4 + n + shape.m, shape.t, n, &matrix, buffer),
     }
