@@ -30,7 +30,8 @@ fn all_smaller(
         let step = at + 3 * i;
         if chart[step + 1] == action {
             let cell = matrix[base + chart[step + 2] as usize * column];
-            if cell == 0 || mark <= cell {
+            let equal = cell == 0;
+            if equal || mark <= cell {
                 return false;
             }
         }

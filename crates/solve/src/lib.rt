@@ -67,7 +67,7 @@ fn solve(
     let mut set = first_set(kind, shape.n);
     let mut next = round(shape, work, sheet, nodes, set);
     let mut rounds: usize = 0;
-    while next != set {
+    'rounds: while next != set {
         if rounds == 4096 {
             return PropertyAnswer::Refused(refusal::of_lent(15));
         }

@@ -26,18 +26,18 @@ pub returns-then-has : goal.returns-then-has
 returns-then-has c = λ w. w.new (sym c.has.ensures ∙ c.if-has.true)
 
 pub rests_forth-requires : goal.rests_forth-requires
-rests_forth-requires c = record { sorted = c.requires.sorted; p_lt_n = (c.if-p-n.false, c.if-q-n.false) }
+rests_forth-requires c = record { sorted = c.requires.sorted; p_lt_n = (c.if-p-n.false, (omega arith)) }
 
 pub returns-then-side-eq0 : goal.returns-then-side-eq0
 returns-then-side-eq0 c =
-    side_passes _ _ _ _ c.if-p-n.false c.if-q-n.false (λ s. false≢true (sym c.if-has.false ∙ c.has.ensures ∙ s)) 0 c.if-side-eq0.true c.rests_forth.result c.rests_forth.ensures
+    side_passes _ _ _ _ c.if-p-n.false (omega arith) (λ s. false≢true (sym c.if-has.false ∙ c.has.ensures ∙ s)) 0 c.if-side-eq0.true c.rests_forth.result c.rests_forth.ensures
 
 pub rests_back-requires : goal.rests_back-requires
-rests_back-requires c = record { sorted = c.requires.sorted; p_lt_n = (c.if-p-n.false, c.if-q-n.false) }
+rests_back-requires c = record { sorted = c.requires.sorted; p_lt_n = (c.if-p-n.false, (omega arith)) }
 
 pub returns-then-side-eq1 : goal.returns-then-side-eq1
 returns-then-side-eq1 c =
-    side_passes _ _ _ _ c.if-p-n.false c.if-q-n.false (λ s. false≢true (sym c.if-has.false ∙ c.has.ensures ∙ s)) 1 c.if-side-eq1.true c.rests_back.result c.rests_back.ensures
+    side_passes _ _ _ _ c.if-p-n.false (omega arith) (λ s. false≢true (sym c.if-has.false ∙ c.has.ensures ∙ s)) 1 c.if-side-eq1.true c.rests_back.result c.rests_back.ensures
 
 pub returns : goal.returns
 returns c = λ w. other_side _ _ _ _ c.if-side-eq0.false c.if-side-eq1.false w

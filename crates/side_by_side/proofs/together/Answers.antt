@@ -1,4 +1,5 @@
 -- Each way out, by what was judged; at the last, the three parts that were written are the layout.
+use borrow.Author.Rules.{rules}
 use native.Mathlib.Omega.{arith}
 use Prim.Native.Nat.{◌+◌, ◌*◌, ◌≤◌, ◌<◌}
 use mathlib.Core.Path.{◌≡◌, refl, sym}
@@ -35,17 +36,17 @@ number-m-requires c = (omega (arith, c.flag-2.ensures.same_length, c.flag.ensure
 pub returns-then-n-gt64 : goal.returns-then-n-gt64
 returns-then-n-gt64 c =
     let a = c.args in
-    joining_refused (chart_in a.first.now a.a) (chart_in a.second.now a.b) (refused_18 a.first.now a.a a.second.now a.b c.if-n-gt64.true) c.of_lent.ensures
+    joining_refused (chart_in a.first.now a.a) (chart_in a.second.now a.b) (refused_18 a.first.now a.a a.second.now a.b (omega arith)) (search rules)
 
 pub returns-then-m-gt32 : goal.returns-then-m-gt32
 returns-then-m-gt32 c =
     let a = c.args in
-    joining_refused (chart_in a.first.now a.a) (chart_in a.second.now a.b) (refused_19 a.first.now a.a a.second.now a.b c.if-n-gt64.false (omega (arith, c.if-m-gt32.true, (joint_numbered (chart_in c.args.first.now c.args.a) (chart_in c.args.second.now c.args.b) (λ x h. get_or-replicate 256 x 0 0 h) c.flag.ensures c.flag-2.ensures c.number-m.ensures).count_is))) c.of_lent-then-m-gt32.ensures
+    joining_refused (chart_in a.first.now a.a) (chart_in a.second.now a.b) (refused_19 a.first.now a.a a.second.now a.b (omega arith) (omega (arith, (joint_numbered (chart_in c.args.first.now c.args.a) (chart_in c.args.second.now c.args.b) (λ x h. get_or-replicate 256 x 0 0 h) c.flag.ensures c.flag-2.ensures c.number-m.ensures).count_is))) (search rules)
 
 pub returns-then-t-gt1024 : goal.returns-then-t-gt1024
 returns-then-t-gt1024 c =
     let a = c.args in
-    joining_refused (chart_in a.first.now a.a) (chart_in a.second.now a.b) (refused_20 a.first.now a.a a.second.now a.b c.if-n-gt64.false (omega (arith, c.if-m-gt32.false, (joint_numbered (chart_in c.args.first.now c.args.a) (chart_in c.args.second.now c.args.b) (λ x h. get_or-replicate 256 x 0 0 h) c.flag.ensures c.flag-2.ensures c.number-m.ensures).count_is)) c.if-t-gt1024.true) c.of_lent-then-t-gt1024.ensures
+    joining_refused (chart_in a.first.now a.a) (chart_in a.second.now a.b) (refused_20 a.first.now a.a a.second.now a.b (omega arith) (omega (arith, (joint_numbered (chart_in c.args.first.now c.args.a) (chart_in c.args.second.now c.args.b) (λ x h. get_or-replicate 256 x 0 0 h) c.flag.ensures c.flag-2.ensures c.number-m.ensures).count_is)) (omega arith)) (search rules)
 
 pub slice_bounds-codes-end : goal.slice_bounds-codes-end
 slice_bounds-codes-end c = joint_room _ _ (joint_numbered (chart_in c.args.first.now c.args.a) (chart_in c.args.second.now c.args.b) (λ x h. get_or-replicate 256 x 0 0 h) c.flag.ensures c.flag-2.ensures c.number-m.ensures)

@@ -10,12 +10,12 @@ use Rattle.solve.proofs.Solving.{Rounding}
 use Rattle.solve.proofs.solve.Given as goal
 
 -- the rows stay those of the table that was made
-abbrev pub invariant-loop-next : goal.invariant-loop-next
-invariant-loop-next l =
+abbrev pub invariant-rounds : goal.invariant-rounds
+invariant-rounds l =
     (length l.work ≡ length l.initial.work)
     × ((made : List ℕ) × Table l.shape.n l.shape.m (chart_in l.chart l.shape).steps made × SameRows l.shape.n l.shape.m made l.work)
     × Remembers l.shape.n l.shape.m l.sheet l.work
     × Rounding l.shape.n (application l.chart l.shape l.sheet l.nodes) (first_set l.kind) l.set l.next l.rounds
 
-abbrev pub decreases-loop-next : goal.decreases-loop-next
-decreases-loop-next l = 4096 - l.rounds
+abbrev pub decreases-rounds : goal.decreases-rounds
+decreases-rounds l = 4096 - l.rounds

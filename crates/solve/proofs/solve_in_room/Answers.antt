@@ -17,7 +17,7 @@ pub overflow_add-size-2 : goal.overflow_add-size-2
 overflow_add-size-2 c = omega (arith, work_few c.args.chart.now c.args.shape c.args.sheet.now c.requires.read_as c.requires.sheet_len_bound)
 
 pub solve-requires : goal.solve-requires
-solve-requires c = record { read_as = c.requires.read_as; nodes_bound = c.requires.nodes_bound; blank = (blank 128, omega (arith, c.if-size-le128.true)) }
+solve-requires c = record { read_as = c.requires.read_as; nodes_bound = c.requires.nodes_bound; blank = (blank 128, omega arith) }
 
 pub solve-requires-then-size-le1024 : goal.solve-requires-then-size-le1024
 solve-requires-then-size-le1024 c = record { read_as = c.requires.read_as; nodes_bound = c.requires.nodes_bound; blank = (blank 1024, omega (arith, c.if-size-le1024.true)) }
