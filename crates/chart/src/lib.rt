@@ -146,6 +146,7 @@ fn judge_triples(bytes: &[u8], n: usize, m: usize, at: usize, t: usize) -> Judge
 }
 
 // The transitions, whose count stands at p, and nothing after.
+#[tactic(auto, unfolding(crate::specs::Reading::read_transitions))]
 fn read_transitions(bytes: &[u8], n: usize, m: usize, p: usize) -> ChartRead
     ensures { result ≡ read_transitions bytes.now n m p }
 {
@@ -174,6 +175,7 @@ fn read_transitions(bytes: &[u8], n: usize, m: usize, p: usize) -> ChartRead
 }
 
 // The actions, whose count stands at p, and what follows.
+#[tactic(auto, unfolding(crate::specs::Reading::read_actions))]
 fn read_actions(bytes: &[u8], n: usize, p: usize) -> ChartRead
     ensures { result ≡ read_actions bytes.now n p }
 {

@@ -1,4 +1,5 @@
 use native.Mathlib.Omega.{arith}
+use lib.ListN.{get_or}
 use borrow.Author.Tests.{le-leb, lt-leb, le-ltb, lt-ltb}
 use Rattle.chart.specs.Reading.{read_chart}
 use Rattle.chart.proofs.Exactly.{read_exactly}
@@ -29,7 +30,7 @@ pub returns-then-n-gt64-clause-value : goal.returns-then-n-gt64-clause-value
 unfolding read_chart
 returns-then-n-gt64-clause-value c = rw (
   lt-leb _ _ c.if-bytes-le0.false,
-  le-ltb _ _ c.if-n-lt1.false,
+  le-ltb (get_or c.args.bytes.now 0 0) 1 (omega arith),
   lt-ltb _ _ c.if-n-gt64.true,
   c.of_chart-then-n-gt64.ensures,
 )
@@ -41,8 +42,8 @@ pub returns-then-bytes-n-clause-value : goal.returns-then-bytes-n-clause-value
 unfolding read_chart
 returns-then-bytes-n-clause-value c = rw (
   lt-leb _ _ c.if-bytes-le0.false,
-  le-ltb _ _ c.if-n-lt1.false,
-  le-ltb _ _ c.if-n-gt64.false,
+  le-ltb (get_or c.args.bytes.now 0 0) 1 (omega arith),
+  le-ltb 64 (get_or c.args.bytes.now 0 0) (omega arith),
   le-leb _ _ c.if-bytes-n.true,
   c.of_chart-then-bytes-n.ensures,
 )
@@ -54,8 +55,8 @@ pub returns-clause-value : goal.returns-clause-value
 unfolding read_chart
 returns-clause-value c = rw (
   lt-leb _ _ c.if-bytes-le0.false,
-  le-ltb _ _ c.if-n-lt1.false,
-  le-ltb _ _ c.if-n-gt64.false,
+  le-ltb (get_or c.args.bytes.now 0 0) 1 (omega arith),
+  le-ltb 64 (get_or c.args.bytes.now 0 0) (omega arith),
   lt-leb _ _ c.if-bytes-n.false,
 ) c.read_actions.ensures
 

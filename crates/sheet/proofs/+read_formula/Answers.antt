@@ -51,7 +51,7 @@ returns-then-node-gt6 t c =
 pub returns-then-len-at-2 : goal.returns-then-len-at-2
 returns-then-len-at-2 t c =
     let a = c.args in
-    rw (action_absent_read a.bytes.now a.len a.m a.at a.left c.requires.0 c.requires.1 c.if-left-eq0.false c.if-len-at.false c.if-node-lt5.false c.if-node-gt6.false c.if-len-at-2.true) c.fault-then-len-at-2.ensures
+    rw (action_absent_read a.bytes.now a.len a.m a.at a.left c.requires.0 c.requires.1 c.if-left-eq0.false c.if-len-at.false c.if-node-lt5.false (omega arith) c.if-len-at-2.true) c.fault-then-len-at-2.ensures
 
 pub read_formula-requires-then-action_known : goal.read_formula-requires-then-action_known
 read_formula-requires-then-action_known t c = (omega arith, (c.requires.0, omega (arith, c.requires.1)))
@@ -59,9 +59,9 @@ read_formula-requires-then-action_known t c = (omega arith, (c.requires.0, omega
 pub returns-then-action_known : goal.returns-then-action_known
 returns-then-action_known t c =
     let a = c.args in
-    rw (one_read a.bytes.now a.len a.m a.at a.left c.requires.0 c.requires.1 c.if-left-eq0.false c.if-len-at.false c.if-node-lt5.false c.if-node-gt6.false c.if-len-at-2.false (c.action_known.ensures.0 c.if-action_known.true)) c.read_formula-then-action_known.ensures
+    rw (one_read a.bytes.now a.len a.m a.at a.left c.requires.0 c.requires.1 c.if-left-eq0.false c.if-len-at.false c.if-node-lt5.false (omega arith) c.if-len-at-2.false (c.action_known.ensures.0 c.if-action_known.true)) c.read_formula-then-action_known.ensures
 
 pub returns : goal.returns
 returns t c =
     let a = c.args in
-    rw (label_read a.bytes.now a.len a.m a.at a.left c.requires.0 c.requires.1 c.if-left-eq0.false c.if-len-at.false c.if-node-lt5.false c.if-node-gt6.false c.if-len-at-2.false (λ known. false≢true (sym c.if-action_known.false ∙ c.action_known.ensures.1 known))) c.fault-2.ensures
+    rw (label_read a.bytes.now a.len a.m a.at a.left c.requires.0 c.requires.1 c.if-left-eq0.false c.if-len-at.false c.if-node-lt5.false (omega arith) c.if-len-at-2.false (λ known. false≢true (sym c.if-action_known.false ∙ c.action_known.ensures.1 known))) c.fault-2.ensures

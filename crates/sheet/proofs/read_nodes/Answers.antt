@@ -1,8 +1,8 @@
-use Prim.Native.Nat.{ℕ, ◌≤◌}
+use Prim.Native.Nat.{ℕ, ◌/◌, ◌%◌, ◌≤◌}
 use mathlib.Core.Path.{◌≡◌, ap}
 use native.Mathlib.Omega.{arith}
 use mathlib.Core.List.{List}
-use lib.ListN.{length, take}
+use lib.ListN.{length, get_or, take}
 use borrow.Author.Tests.{le-ltb, lt-ltb, le-leb, lt-leb}
 use Rattle.sheet.specs.Reading.{read_nodes, parse, packed}
 use Rattle.sheet.specs.declared.SheetRead.TheVariants as Read
@@ -29,7 +29,7 @@ pub returns-then-nodes-gt200 : goal.returns-then-nodes-gt200
 unfolding read_nodes
 returns-then-nodes-gt200 c = rw (
   lt-leb _ _ c.if-bytes-le2.false,
-  le-ltb _ _ c.if-nodes-lt1.false,
+  le-ltb (get_or c.args.bytes.now 2 0) 1 (omega arith),
   lt-ltb _ _ c.if-nodes-gt200.true,
 ) (ap Read.Refused c.of_sheet-then-nodes-gt200.ensures)
 
@@ -37,10 +37,10 @@ pub returns-then-found-ge131072 : goal.returns-then-found-ge131072
 unfolding read_nodes
 returns-then-found-ge131072 c = rw (
   lt-leb _ _ c.if-bytes-le2.false,
-  le-ltb _ _ c.if-nodes-lt1.false,
-  le-ltb _ _ c.if-nodes-gt200.false,
-  ending_read_lem _ _ _ _ c.if-nodes-gt200.false,
-  ← found _ _ _ _ _ c.if-nodes-gt200.false c.copy-first.ensures.1 c.read_formula-found.ensures,
+  le-ltb (get_or c.args.bytes.now 2 0) 1 (omega arith),
+  le-ltb 200 (get_or c.args.bytes.now 2 0) (omega arith),
+  ending_read_lem c.args.bytes.now c.args.m c.args.kind (get_or c.args.bytes.now 2 0) (omega arith),
+  ← found c.args.bytes.now c.copy-first.result c.args.m (get_or c.args.bytes.now 2 0) c.read_formula-found.result (omega arith) c.copy-first.ensures.1 c.read_formula-found.ensures,
   le-leb _ _ c.if-found-ge131072.true,
 ) (ap Read.Refused c.of_sheet-then-found-ge131072.ensures)
 
@@ -48,10 +48,10 @@ pub returns-then-found-gt0 : goal.returns-then-found-gt0
 unfolding read_nodes
 returns-then-found-gt0 c = rw (
   lt-leb _ _ c.if-bytes-le2.false,
-  le-ltb _ _ c.if-nodes-lt1.false,
-  le-ltb _ _ c.if-nodes-gt200.false,
-  ending_read_lem _ _ _ _ c.if-nodes-gt200.false,
-  ← found _ _ _ _ _ c.if-nodes-gt200.false c.copy-first.ensures.1 c.read_formula-found.ensures,
+  le-ltb (get_or c.args.bytes.now 2 0) 1 (omega arith),
+  le-ltb 200 (get_or c.args.bytes.now 2 0) (omega arith),
+  ending_read_lem c.args.bytes.now c.args.m c.args.kind (get_or c.args.bytes.now 2 0) (omega arith),
+  ← found c.args.bytes.now c.copy-first.result c.args.m (get_or c.args.bytes.now 2 0) c.read_formula-found.result (omega arith) c.copy-first.ensures.1 c.read_formula-found.ensures,
   lt-leb _ _ c.if-found-ge131072.false,
   lt-ltb _ _ c.if-found-gt0.true,
 ) (ap Read.Refused c.of_sheet-then-found-gt0.ensures)
@@ -60,12 +60,12 @@ pub returns-then-after-bytes : goal.returns-then-after-bytes
 unfolding read_nodes
 returns-then-after-bytes c = rw (
   lt-leb _ _ c.if-bytes-le2.false,
-  le-ltb _ _ c.if-nodes-lt1.false,
-  le-ltb _ _ c.if-nodes-gt200.false,
-  ending_read_lem _ _ _ _ c.if-nodes-gt200.false,
-  ← found _ _ _ _ _ c.if-nodes-gt200.false c.copy-first.ensures.1 c.read_formula-found.ensures,
+  le-ltb (get_or c.args.bytes.now 2 0) 1 (omega arith),
+  le-ltb 200 (get_or c.args.bytes.now 2 0) (omega arith),
+  ending_read_lem c.args.bytes.now c.args.m c.args.kind (get_or c.args.bytes.now 2 0) (omega arith),
+  ← found c.args.bytes.now c.copy-first.result c.args.m (get_or c.args.bytes.now 2 0) c.read_formula-found.result (omega arith) c.copy-first.ensures.1 c.read_formula-found.ensures,
   lt-leb _ _ c.if-found-ge131072.false,
-  le-ltb _ _ c.if-found-gt0.false,
+  le-ltb 0 (c.read_formula-found.result / 512) (omega arith),
   lt-ltb _ _ c.if-after-bytes.true,
 ) (ap Read.Refused c.of_sheet-then-after-bytes.ensures)
 
@@ -73,11 +73,11 @@ pub returns : goal.returns
 unfolding read_nodes
 returns c = rw (
   lt-leb _ _ c.if-bytes-le2.false,
-  le-ltb _ _ c.if-nodes-lt1.false,
-  le-ltb _ _ c.if-nodes-gt200.false,
-  ending_read_lem _ _ _ _ c.if-nodes-gt200.false,
-  ← found _ _ _ _ _ c.if-nodes-gt200.false c.copy-first.ensures.1 c.read_formula-found.ensures,
+  le-ltb (get_or c.args.bytes.now 2 0) 1 (omega arith),
+  le-ltb 200 (get_or c.args.bytes.now 2 0) (omega arith),
+  ending_read_lem c.args.bytes.now c.args.m c.args.kind (get_or c.args.bytes.now 2 0) (omega arith),
+  ← found c.args.bytes.now c.copy-first.result c.args.m (get_or c.args.bytes.now 2 0) c.read_formula-found.result (omega arith) c.copy-first.ensures.1 c.read_formula-found.ensures,
   lt-leb _ _ c.if-found-ge131072.false,
-  le-ltb _ _ c.if-found-gt0.false,
-  le-ltb _ _ c.if-after-bytes.false,
+  le-ltb 0 (c.read_formula-found.result / 512) (omega arith),
+  le-ltb (c.read_formula-found.result % 512) (length c.args.bytes.now) (omega arith),
 )

@@ -1,4 +1,6 @@
 use mathlib.Core.Path.{ap}
+use native.Mathlib.Omega.{arith}
+use lib.ListN.{get_or}
 use borrow.Author.Tests.{le-ltb, lt-ltb, le-leb, lt-leb, eq-eqb, ne_eqb}
 use Rattle.sheet.specs.Reading.{read_sheet}
 use Rattle.sheet.specs.declared.SheetRead.TheVariants as Read
@@ -48,7 +50,7 @@ returns-clause-value c = rw (
   lt-leb _ _ c.if-bytes-le0.false,
   eq-eqb _ _ c.if-bytes-ne1.false,
   lt-leb _ _ c.if-bytes-le1.false,
-  le-ltb _ _ c.if-kind-gt2.false,
+  le-ltb 2 (get_or c.args.bytes.now 1 0) (omega arith),
 ) c.read_nodes.ensures
 
 pub returns-clause-accepted_exactly : goal.returns-clause-accepted_exactly

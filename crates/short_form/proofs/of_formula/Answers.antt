@@ -31,7 +31,7 @@ pub returns-then-total-gt200 : goal.returns-then-total-gt200
 returns-then-total-gt200 c kind f e n =
     let a = c.args in
     let large : 200 < nodes (short_form a.name f) = omega (arith, c.more_nodes.ensures, form_nodes a.name f) in
-    promise_refused a.buffer.now (ap outcome_of (form_large a.name f (sheet_free a.sheet.now kind f e c.first_variable-variable.result (c.first_variable-variable.ensures kind f e) c.if-variable-sheet.false) c.if-name-gt3.false large)) c.of_sheet-then-total-gt200.ensures
+    promise_refused a.buffer.now (ap outcome_of (form_large a.name f (sheet_free a.sheet.now kind f e c.first_variable-variable.result (c.first_variable-variable.ensures kind f e) c.if-variable-sheet.false) (omega arith) large)) c.of_sheet-then-total-gt200.ensures
 
 pub overflow_add-size-2 : goal.overflow_add-size-2
 overflow_add-size-2 c =
@@ -40,7 +40,7 @@ overflow_add-size-2 c =
 pub returns-then-buffer-size : goal.returns-then-buffer-size
 returns-then-buffer-size c kind f e n =
     let a = c.args in
-    promise_short a.buffer.now (ap outcome_of (form_made a.name f (sheet_free a.sheet.now kind f e c.first_variable-variable.result (c.first_variable-variable.ensures kind f e) c.if-variable-sheet.false) c.if-name-gt3.false (omega (arith, c.more_nodes.ensures, form_nodes a.name f))))
+    promise_short a.buffer.now (ap outcome_of (form_made a.name f (sheet_free a.sheet.now kind f e c.first_variable-variable.result (c.first_variable-variable.ensures kind f e) c.if-variable-sheet.false) (omega arith) (omega (arith, c.more_nodes.ensures, form_nodes a.name f))))
     (omega (arith, c.operand_size.ensures, form_length a.sheet.now kind f e a.name)) c.of_lent-then-buffer-size.ensures
 
 pub returns : goal.returns
@@ -48,5 +48,5 @@ returns c kind f e n =
     let a = c.args in
     let total : a.count + c.more_nodes.result ≡ nodes (short_form a.name f) = omega (arith, c.more_nodes.ensures, form_nodes a.name f) in
     let size : length a.sheet.now + 1 + c.operand_size.result ≡ length (encode (kind_written a.name) (short_form a.name f)) = omega (arith, c.operand_size.ensures, form_length a.sheet.now kind f e a.name) in
-    promise_written a.buffer.now (ap outcome_of (form_made a.name f (sheet_free a.sheet.now kind f e c.first_variable-variable.result (c.first_variable-variable.ensures kind f e) c.if-variable-sheet.false) c.if-name-gt3.false (omega (arith, total)))) (omega (arith, size)) size
+    promise_written a.buffer.now (ap outcome_of (form_made a.name f (sheet_free a.sheet.now kind f e c.first_variable-variable.result (c.first_variable-variable.ensures kind f e) c.if-variable-sheet.false) (omega arith) (omega (arith, total)))) (omega (arith, size)) size
     (rw (form_encoded a.sheet.now kind f e a.name _ total) at c.put_form.ensures)

@@ -5,7 +5,7 @@ use Rattle.solve.proofs.Solving.{empty_word, full_word}
 use Rattle.solve.proofs.first_set.Goals as goal
 
 pub returns-then-kind-lt2 : goal.returns-then-kind-lt2
-returns-then-kind-lt2 c = rw (lt-ltb c.args.kind 2 (omega (arith, c.if-kind-lt2.true))) (empty_word c.args.n)
+returns-then-kind-lt2 c = rw (lt-ltb c.args.kind 2 (omega arith)) (empty_word c.args.n)
 
 pub returns : goal.returns
-returns c = rw (le-ltb c.args.kind 2 (omega (arith, c.if-kind-lt2.false))) (c.all.ensures.0 c.requires ∙ full_word c.args.n)
+returns c = rw (le-ltb c.args.kind 2 (omega arith)) (c.all.ensures.0 c.requires ∙ full_word c.args.n)

@@ -81,7 +81,7 @@ loop-i-preserved c =
       λ m e. let q : m ≡ a.shape.m = omega arith in
           rw (q, steps_at_snoc a.chart.now at l.i, c.add_directed.ensures) (table_directed a.back _ _ _ _ _ u (l.invariant.2 _ refl)),
       omega (arith, l.invariant.3),
-      λ j b h. elim (dec_lt j l.i) [ yes k ↦ l.invariant.4 j b k | no k ↦ let e : j ≡ l.i = omega arith in rw e c.if-s-chart.false ],
+      λ j b h. elim (dec_lt j l.i) [ yes k ↦ l.invariant.4 j b k | no k ↦ let e : j ≡ l.i = omega arith in rw e (omega arith) ],
     )
 
 pub shape_of-into : goal.shape_of-into
