@@ -15,11 +15,15 @@ EDGE = r"[A-Za-z0-9_'ℕ₀-₉⁺-]"
 # Names that would fall together with another of the same file: (crate, old name) or old name.
 BY_HAND = {"atRest": "resting_bytes", "getD": "get_or"}
 IN_CRATE = {("reason", "all_true"): "all_true_lem", ("evaluate", "joined_word"): "joined_word_lem"}
-# Names that another may share: a label of a clause, or a function of src/ that is not in scope where the law is cited.
 # The toolchain's own, which a crate names too.
 LIBRARY = {"length-append"}
+# Names that another may share: a label of a clause, or a function of src/ or a definition that is not in scope where the law is cited.
 MAY_SHARE = {"accepted_exactly", "action_known", "all_marks", "at_fault", "chart_refused", "is_earlier", "marks_are", "marks_below", "matrix_room",
-             "of_chart", "of_sheet", "sheet_refused", "triples_rise"}
+             "of_chart", "of_sheet", "sheet_refused", "targets_in", "triples_rise"}
+# A field, but where it is the case of what reading two charts refuses: there the definition of that name is cited.
+CASE = ("of-second", "of_second", "of_second_lem")
+CASE_FILES = {"crates/beside/proofs/Reading.antt", "crates/calls/proofs/Packable.antt"}
+CASE_LINES = re.compile(r"Rattle\.beside\.proofs\.Reading\.\{|by_reading \(of-second ")
 
 
 def snake(name):
@@ -83,6 +87,8 @@ def quoted(text, new):
 
 def antt(line, new):
     """The code of a line; of a comment only what stands in backticks."""
+    if CASE[0] in new and not CASE_LINES.search(line):
+        new = {**new, CASE[0]: new[None]}
     at = re.search(r"(^|\s)--(\s|$)", line)
     code, comment = (line[:at.start()], line[at.start():]) if at else (line, "")
     return replace(code, new) + quoted(comment, new)
@@ -112,6 +118,7 @@ def main():
         crate = path.split("/")[1] if path.startswith("crates/") else ""
         here = dict(new)
         here.update({old: to for (where, old), to in IN_CRATE.items() if where == crate})
+        here[None] = CASE[2] if path in CASE_FILES else CASE[1]
         text = open(path).read()
         turned = "".join(how(line, here) for line in text.splitlines(True))
         if turned != text:

@@ -91,16 +91,16 @@ module _ (c d : Chart) (formed_first : WellFormed c) (formed_second : WellFormed
         forth : Mark (beside c d).steps p (states c + q) 0 → Partners c d p q
         forth m =
             let b = (equal_iff (states c + states d) (beside c d).steps (targets_below c d formed_first formed_second) p (states c + q) (omega arith) (omega arith)).0 m in
-            record { of_first = h; of_second_lem = i; R = across b.0 b.1; matching = across_matches b.0 b.1; related = across_i b.0 b.1 p q h i b.2 }
+            record { of_first = h; of_second = i; R = across b.0 b.1; matching = across_matches b.0 b.1; related = across_i b.0 b.1 p q h i b.2 }
 
     pub partners_any : Partners c d p q ↔ PartnersAny c d p q
-    partners_any = (λ r. (r.of_first, r.of_second_lem, (Of r.R, r.matching, r.related)), λ (h, i, (R, m, r)). (partners_exactly h i).0 (matching_marked R m p q h i r))
+    partners_any = (λ r. (r.of_first, r.of_second, (Of r.R, r.matching, r.related)), λ (h, i, (R, m, r)). (partners_exactly h i).0 (matching_marked R m p q h i r))
 
 pub self_partners : (c : Chart) (p : ℕ) → p < states c → Partners c c p p
 self_partners c p h =
     record {
       of_first = h;
-      of_second_lem = h;
+      of_second = h;
       R = eqb;
       matching = (
         record { forth = λ x y r t m e. (t, m, e ∙ eqb-true x y r, refl, eq-eqb t.target t.target refl) },
@@ -110,4 +110,4 @@ self_partners c p h =
     }
 
 pub partners_swapped : (c d : Chart) (p q : ℕ) → Partners c d p q → Partners d c q p
-partners_swapped c d p q r = record { of_first = r.of_second_lem; of_second_lem = r.of_first; R = λ x y. r.R y x; matching = (r.matching.1, r.matching.0); related = r.related }
+partners_swapped c d p q r = record { of_first = r.of_second; of_second = r.of_first; R = λ x y. r.R y x; matching = (r.matching.1, r.matching.0); related = r.related }

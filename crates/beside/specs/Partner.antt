@@ -21,7 +21,7 @@ Matching c d R = Follows c d R × Follows d c (λ q p. R p q)
 -- state p of c and state q of d are partners: some such relation relates them
 pub record Partners (c d : Chart) (p q : ℕ) : Type 0 where
   pub of_first : p < states c
-  pub of_second_lem : q < states d
+  pub of_second : q < states d
   pub R : ℕ → ℕ → Bool
   pub matching : Matching c d (Of R)
   pub related : So (R p q)

@@ -99,7 +99,7 @@ module _ (c d : Chart) (formed_first : WellFormed c) (formed_second : WellFormed
   first_alone : Alone (states c) (FirstMatched c d) (partnerless matrix (n c d) 0 (states c) (states c) (states d))
   first_alone =
       partnerless_alone matrix (n c d) 0 (states c) (states c) (states d) (FirstMatched c d) (λ p h. (
-        λ r. (r.0, r.1.of_second_lem, rw (zero-add p) ((zero_first p r.0 h r.1.of_second_lem).1 r.1)),
+        λ r. (r.0, r.1.of_second, rw (zero-add p) ((zero_first p r.0 h r.1.of_second).1 r.1)),
         λ z. (z.0, (zero_first p z.0 h z.1).0 (rw (zero-add p) at z.2)),
       ))
 

@@ -35,7 +35,7 @@ itself_three_zeros chart bytes old new given p =
     let t = told chart chart old new given p in
     let both = two_read chart chart t.c t.d t.read in
     let same : t.d ≡ t.c = sym both.second_is ∙ ap (chart_in chart) (same_shape both.second_read both.first_read) ∙ both.first_is in
-    let z = itself_compared t.c (first_formed both bytes bytes).states_some (subst (λ (x : Chart). Comparison t.c x t.mark t.of_first t.of_second_lem given.rounds) same t.comparison) in
-    let list : listed t.mark t.of_first t.of_second_lem ≡ 0 ∷ 0 ∷ 0 ∷ [] = rw (z.0, z.1, z.2) in
+    let z = itself_compared t.c (first_formed both bytes bytes).states_some (subst (λ (x : Chart). Comparison t.c x t.mark t.of_first t.of_second given.rounds) same t.comparison) in
+    let list : listed t.mark t.of_first t.of_second ≡ 0 ∷ 0 ∷ 0 ∷ [] = rw (z.0, z.1, z.2) in
     let size : given.written ≡ 3 = t.written_is ∙ ap length list in
     (size, ap (λ (k : ℕ). take k new) (sym size) ∙ t.start_is ∙ list)

@@ -49,5 +49,5 @@ compare_swapped first second first_bytes second_bytes old new old' new' given gi
     let c : t.d ≡ u.c = cc in
     let d : t.c ≡ u.d = cc in
     let w = swapped_compared t.c t.d (first_formed both first_bytes second_bytes) (second_formed both first_bytes second_bytes) t.comparison in
-    let e = comparison_determined u.c u.d (subst₂ (λ (x y : Chart). Comparison x y t.mark t.of_second_lem t.of_first given.rounds) c d w) u.comparison in
-    record { mark = t.mark; first = t.of_first; second = t.of_second_lem; lists = t.start_is; lists_swapped = rw (e.0, e.1, e.2) u.start_is; rounds_same = e.3 }
+    let e = comparison_determined u.c u.d (subst₂ (λ (x y : Chart). Comparison x y t.mark t.of_second t.of_first given.rounds) c d w) u.comparison in
+    record { mark = t.mark; first = t.of_first; second = t.of_second; lists = t.start_is; lists_swapped = rw (e.0, e.1, e.2) u.start_is; rounds_same = e.3 }

@@ -30,10 +30,10 @@ pub record Told (first second old new : List ℕ) (given : Struct.Comparison) : 
   pub read : read_two first second ≡ two c d
   pub mark : ℕ
   pub of_first : List ℕ
-  pub of_second_lem : List ℕ
-  pub comparison : Comparison c d mark of_first of_second_lem given.rounds
-  pub written_is : given.written ≡ length (listed mark of_first of_second_lem)
-  pub start_is : take given.written new ≡ listed mark of_first of_second_lem
+  pub of_second : List ℕ
+  pub comparison : Comparison c d mark of_first of_second given.rounds
+  pub written_is : given.written ≡ length (listed mark of_first of_second)
+  pub start_is : take given.written new ≡ listed mark of_first of_second
   pub later_stay : drop given.written new ≡ drop given.written old
 
 pub told : (first second old new : List ℕ) (given : Struct.Comparison) → ComparePromise first second old new (Answer.Compared given) → Told first second old new given
@@ -54,7 +54,7 @@ told first second old new given = by_read (read_two first second) refl
           read = e;
           mark = p.mark;
           of_first = p.first;
-          of_second_lem = p.second;
+          of_second = p.second;
           comparison = p.comparison;
           written_is = w.size_is ∙ ap length (sym same);
           start_is = w.start_is ∙ sym same;

@@ -97,8 +97,8 @@ module _ (c d : Chart) (formed_first : WellFormed c) (formed_second : WellFormed
   no_partners : (p q : ℕ) → Partners c d p q → ⊥
   unfolding Mark
   no_partners p q r =
-      neg_e _ (all_e _ apart (product_i _ (below_i _ p r.of_first) (below_i _ q r.of_second_lem)))
-      ((partners_exactly c d formed_first formed_second p q r.of_first r.of_second_lem).1 r (suc k))
+      neg_e _ (all_e _ apart (product_i _ (below_i _ p r.of_first) (below_i _ q r.of_second)))
+      ((partners_exactly c d formed_first formed_second p q r.of_first r.of_second).1 r (suc k))
 
   apart_comparison : Comparison c d (suc k) (chosen (λ p. true) (states c)) (chosen (λ p. true) (states d)) (suc k)
   apart_comparison =

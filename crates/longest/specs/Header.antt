@@ -26,8 +26,8 @@ pub record Reaches (first second : List ℕ) (size : ℕ) : Type 0 where
   pub c : Chart
   pub d : Chart
   pub read : read_two first second ≡ two c d
-  pub some : (mark : ℕ) × (of_first of_second_lem : List ℕ) × (rounds : ℕ) × Comparison c d mark of_first of_second_lem rounds
-  pub each : (mark : ℕ) (of_first of_second_lem : List ℕ) (rounds : ℕ) → Comparison c d mark of_first of_second_lem rounds → length (listed mark of_first of_second_lem) ≡ size
+  pub some : (mark : ℕ) × (of_first of_second : List ℕ) × (rounds : ℕ) × Comparison c d mark of_first of_second rounds
+  pub each : (mark : ℕ) (of_first of_second : List ℕ) (rounds : ℕ) → Comparison c d mark of_first of_second rounds → length (listed mark of_first of_second) ≡ size
 
 -- a chart was read, there is an own list of reasons for it, and every one has so many bytes
 pub record ReasonsReach (chart : List ℕ) (size : ℕ) : Type 0 where

@@ -17,7 +17,7 @@ abbrev pub TakenFrom : Option (List ℕ) → Option (List ℕ) → ℕ → List 
 TakenFrom before after at bytes (Bytes size) = Consumes before after (drop at (take size bytes))
 TakenFrom before after at bytes Unreadable = Unit {0}
 
--- nothing is left unread but where the buffer is full
+-- of such a reader nothing is left unread but where the buffer is full; where it cannot be read, neither this nor `TakenFrom` says anything
 abbrev pub ToTheEnd : Option (List ℕ) → ℕ → Filled → Type 0
 ToTheEnd after room (Bytes size) = (size ≡ room) ⊎ IsAtEnd after
 ToTheEnd after room Unreadable = Unit {0}

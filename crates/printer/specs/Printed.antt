@@ -15,6 +15,6 @@ no_file_text = codes "no file\n"
 abbrev pub IsBeginning : Option (List ℕ) → List ℕ → Type 0
 IsBeginning input bytes = (length bytes ≤ 4096) × IfSome input (λ all. bytes ≡ take 4096 all)
 
--- the report on how the file begins, or the line that it cannot be read
+-- the report on how the file begins, or the line that it cannot be read: which of the two is not said, since no contract tells when a read fails
 abbrev pub PrintsFile : Option (List ℕ) → Option (List ℕ) → Option (List ℕ) → Type 0
 PrintsFile input before after = ((bytes : List ℕ) × IsBeginning input bytes × Reports bytes before after) ⊎ Appends before after no_file_text

@@ -24,7 +24,7 @@ module _ (bytes : List ℕ) (at n : ℕ) (first : List ℕ) (w : Sorted bytes at
 
   -- and where the triple i goes that is one of them
   pub range_target : (p i : ℕ) → p < n → i < get_or first (p + 1) 0 → target_at bytes at i < n
-  range_target p i h l = w.triples.targets_in_lem i (omega (arith, (range_end p h).0))
+  range_target p i h l = w.triples.targets_in i (omega (arith, (range_end p h).0))
 
   -- the triples of that range are the steps of p
   pub source_of : (p i : ℕ) → p < n → get_or first p 0 ≤ i → i < get_or first (p + 1) 0 → source_at bytes at i ≡ p
@@ -67,9 +67,9 @@ stands_chart s sh a =
       there = omega (arith, a.whole);
       few = a.states_few;
       sources_in = λ i h. (a.steps_in i h).source_in;
-      targets_in_lem = λ i h. (a.steps_in i h).target_in;
+      targets_in = λ i h. (a.steps_in i h).target_in;
       sources_rise = sources_rise s sh a;
     }
 
 pub targets_below : (bytes : List ℕ) (at t n : ℕ) → Stands bytes at t n → TargetsBelow n (steps_at bytes at t)
-targets_below bytes at t n st u m = let i = step_member bytes at t m in omega (arith, st.targets_in_lem i.0 i.1, ap (λ (x : Step). x.target) i.2)
+targets_below bytes at t n st u m = let i = step_member bytes at t m in omega (arith, st.targets_in i.0 i.1, ap (λ (x : Step). x.target) i.2)

@@ -17,7 +17,7 @@ pub record Stands (bytes : List ℕ) (at t n : ℕ) : Type 0 where
   pub there : at + 3 * t ≤ length bytes
   pub few : n ≤ 64
   pub sources_in : (i : ℕ) → i < t → source_at bytes at i < n
-  pub targets_in_lem : (i : ℕ) → i < t → target_at bytes at i < n
+  pub targets_in : (i : ℕ) → i < t → target_at bytes at i < n
   pub sources_rise : (i j : ℕ) → i ≤ j → j < t → source_at bytes at i ≤ source_at bytes at j
 
 -- r is the first triple from `from` on whose source is not below s, or t
