@@ -23,7 +23,7 @@ MAY_SHARE = {"accepted_exactly", "action_known", "all_marks", "at_fault", "chart
 # A field, but where it is the case of what reading two charts refuses: there the definition of that name is cited.
 CASE = ("of-second", "of_second", "of_second_lem")
 CASE_FILES = {"crates/beside/proofs/Reading.antt", "crates/calls/proofs/Packable.antt"}
-CASE_LINES = re.compile(r"Rattle\.beside\.proofs\.Reading\.\{|by_reading \(of-second ")
+CASE_LINES = re.compile(r"Rattle\.beside\.proofs\.Reading\.\{|by[-_]reading \(of-second ")
 
 
 def snake(name):
