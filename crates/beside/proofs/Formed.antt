@@ -14,13 +14,14 @@ use Rattle.settle.specs.Test.{pick}
 use Rattle.refusal.specs.declared.Refusal.{Refusal}
 use Rattle.chart.specs.Chart.{Step, Chart, states, transitions}
 use Rattle.chart.specs.Layout.{Earlier, Rising, Bytes, WellFormed}
-use Rattle.chart.specs.declared.Judged.{Judged}
-use Rattle.chart.specs.declared.Judged.TheVariants.{Fine, Bad}
 use Rattle.beside.specs.Beside.{joint_codes, moved, moved_steps, beside, judge_together}
 use Rattle.chart.proofs.Rising.{rising_append}
 use Rattle.beside.proofs.Codes.{joint_members, joint_rising}
 use Rattle.beside.proofs.Moved.{moved_rising}
 use Rattle.beside.proofs.Steps.{first_joint, second_joint, steps_in}
+use Rattle.std.specs.Prelude.{Err}
+use Rattle.chart.specs.Reading.{Judged}
+use Rattle.chart.specs.Reading.{faultless}
 
 module _ (c d : Chart) where
   -- ---- how many there are
@@ -35,17 +36,17 @@ module _ (c d : Chart) where
 
   -- ---- none of the three is given
 
-  pub fine_exactly : (judge_together c d ≡ Fine) ↔ ((states c + states d ≤ 64) × (length (joint_codes c d) ≤ 32) × (transitions c + transitions d ≤ 1024))
+  pub fine_exactly : (judge_together c d ≡ faultless) ↔ ((states c + states d ≤ 64) × (length (joint_codes c d) ≤ 32) × (transitions c + transitions d ≤ 1024))
   fine_exactly = (
     λ e. (let a = fits 64 (states c + states d) _ _ e in let b = fits 32 (length (joint_codes c d)) _ _ a.1 in (a.0, b.0, (fits 1024 (transitions c + transitions d) _ _ b.1).0)),
     λ h. rw (le-ltb 64 (states c + states d) h.0, le-ltb 32 (length (joint_codes c d)) h.1, le-ltb 1024 (transitions c + transitions d) h.2),
   )
     where
-      within : (b : Bool) (r : Refusal) (rest : Judged) → pick b (Bad r) rest ≡ Fine → (b ≡ false) × (rest ≡ Fine)
+      within : (b : Bool) (r : Refusal) (rest : Judged) → pick b (Err r) rest ≡ faultless → (b ≡ false) × (rest ≡ faultless)
       within true r rest e = let z : ◌≡◌ {A = ℕ} 0 1 = cc in absurd (omega arith)
       within false r rest e = (refl, e)
 
-      fits : (most n : ℕ) (r : Refusal) (rest : Judged) → pick (ltb most n) (Bad r) rest ≡ Fine → (n ≤ most) × (rest ≡ Fine)
+      fits : (most n : ℕ) (r : Refusal) (rest : Judged) → pick (ltb most n) (Err r) rest ≡ faultless → (n ≤ most) × (rest ≡ faultless)
       fits most n r rest e = let a = within (ltb most n) r rest e in (ltb-false most n a.0, a.1)
 
   -- ---- well formed
@@ -71,14 +72,14 @@ module _ (c d : Chart) where
             let r : states c + b.0.source ≡ u.source = cc in
             inl (omega (arith, (formed_first.steps_in a.0 a.1).source_in))
 
-    pub well_formed_exactly : WellFormed (beside c d) ↔ (judge_together c d ≡ Fine)
+    pub well_formed_exactly : WellFormed (beside c d) ↔ (judge_together c d ≡ faultless)
     unfolding beside
     well_formed_exactly = (forth, back)
       where
-        forth : WellFormed (beside c d) → judge_together c d ≡ Fine
+        forth : WellFormed (beside c d) → judge_together c d ≡ faultless
         forth F = fine_exactly.1 (omega (arith, F.states_few, states_together), F.actions_few, omega (arith, F.transitions_few, transitions_together))
 
-        back : judge_together c d ≡ Fine → WellFormed (beside c d)
+        back : judge_together c d ≡ faultless → WellFormed (beside c d)
         back e =
             let h = fine_exactly.0 e in
             record {

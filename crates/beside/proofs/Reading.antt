@@ -14,10 +14,6 @@ use Rattle.chart.specs.Chart.{Chart, states, transitions}
 use Rattle.chart.specs.Layout.{Bytes, WellFormed}
 use Rattle.chart.specs.Reading.{chart_in, read_chart}
 use Rattle.chart.specs.declared.Shape.{Shape}
-use Rattle.chart.specs.declared.ChartRead.{ChartRead}
-use Rattle.chart.specs.declared.ChartRead.TheVariants as Read
-use Rattle.chart.specs.declared.Judged.{Judged}
-use Rattle.chart.specs.declared.Judged.TheVariants.{Fine, Bad}
 use Rattle.chart.specs.Fault.{AtFault}
 use Rattle.chart.proofs.Exactly.{read_well_formed}
 use Rattle.chart.proofs.Refused.{refused as chart_refused}
@@ -25,36 +21,39 @@ use Rattle.beside.specs.Beside.{joint_codes, beside, judge_together}
 use Rattle.beside.specs.Reading.{two, refused, where_together, read_second, read_first, read_two}
 use Rattle.beside.proofs.Formed.{well_formed_exactly}
 use Rattle.beside.proofs.Swapped.{judge_swapped}
+use Rattle.std.specs.Prelude.{Result, Ok, Err}
+use Rattle.chart.specs.Reading.{Judged}
+use Rattle.chart.specs.Reading.{faultless}
 
 -- the two charts were accepted, and nothing is wrong with them together
 pub record Both (first second : List ℕ) (c d : Chart) : Type 0 where
   pub a : Shape
   pub b : Shape
-  pub first_read : read_chart first ≡ Read.Chart a
-  pub second_read : read_chart second ≡ Read.Chart b
+  pub first_read : read_chart first ≡ Ok a
+  pub second_read : read_chart second ≡ Ok b
   pub first_is : chart_in first a ≡ c
   pub second_is : chart_in second b ≡ d
-  pub fine : judge_together c d ≡ Fine
+  pub fine : judge_together c d ≡ faultless
 
 module _ (first second : List ℕ) (c d : Chart) where
   pub two_read : read_two first second ≡ two c d → Both first second c d
   two_read = by_first (read_chart first) refl
     where
-      together : (a b : Shape) → read_chart first ≡ Read.Chart a → read_chart second ≡ Read.Chart b → (j : Judged) → judge_together (chart_in first a) (chart_in second b) ≡ j
+      together : (a b : Shape) → read_chart first ≡ Ok a → read_chart second ≡ Ok b → (j : Judged) → judge_together (chart_in first a) (chart_in second b) ≡ j
           → where_together j (chart_in first a) (chart_in second b) ≡ two c d → Both first second c d
-      together a b e f (Bad r) g h = let z : ◌≡◌ {A = ℕ} 0 1 = cc in absurd (omega arith)
-      together a b e f Fine g h =
+      together a b e f (Err r) g h = let z : ◌≡◌ {A = ℕ} 0 1 = cc in absurd (omega arith)
+      together a b e f (Ok tt) g h =
           let i : chart_in first a ≡ c = cc in
           let k : chart_in second b ≡ d = cc in
-          record { a = a; b = b; first_read = e; second_read = f; first_is = i; second_is = k; fine = subst₂ (λ (x y : Chart). judge_together x y ≡ Fine) i k g }
+          record { a = a; b = b; first_read = e; second_read = f; first_is = i; second_is = k; fine = subst₂ (λ (x y : Chart). judge_together x y ≡ faultless) i k g }
 
-      by_second : (a : Shape) → read_chart first ≡ Read.Chart a → (r : ChartRead) → read_chart second ≡ r → read_second second (chart_in first a) r ≡ two c d → Both first second c d
-      by_second a e (Read.Chart b) f h = together a b e f (judge_together (chart_in first a) (chart_in second b)) refl h
-      by_second a e (Read.Refused r) f h = let z : ◌≡◌ {A = ℕ} 0 1 = cc in absurd (omega arith)
+      by_second : (a : Shape) → read_chart first ≡ Ok a → (r : Result Shape Refusal) → read_chart second ≡ r → read_second second (chart_in first a) r ≡ two c d → Both first second c d
+      by_second a e (Ok b) f h = together a b e f (judge_together (chart_in first a) (chart_in second b)) refl h
+      by_second a e (Err r) f h = let z : ◌≡◌ {A = ℕ} 0 1 = cc in absurd (omega arith)
 
-      by_first : (r : ChartRead) → read_chart first ≡ r → read_first first second r ≡ two c d → Both first second c d
-      by_first (Read.Chart a) e h = by_second a e (read_chart second) refl h
-      by_first (Read.Refused r) e h = let z : ◌≡◌ {A = ℕ} 0 1 = cc in absurd (omega arith)
+      by_first : (r : Result Shape Refusal) → read_chart first ≡ r → read_first first second r ≡ two c d → Both first second c d
+      by_first (Ok a) e h = by_second a e (read_chart second) refl h
+      by_first (Err r) e h = let z : ◌≡◌ {A = ℕ} 0 1 = cc in absurd (omega arith)
 
   pub read_two_lem : Both first second c d → read_two first second ≡ two c d
   read_two_lem k =
@@ -82,26 +81,26 @@ module _ {first second : List ℕ} {c d : Chart} (k : Both first second c d) whe
 
 -- the first's own refusal; the second's, with its input; or 18, 19 or 20
 pub data Refusing (first second : List ℕ) (r : Refusal) : Type 0 where
-  of_first : read_chart first ≡ Read.Refused r → Refusing first second r
-  of_second_lem : (s : Refusal) → read_chart second ≡ Read.Refused s → r ≡ of_second s → Refusing first second r
+  of_first : read_chart first ≡ Err r → Refusing first second r
+  of_second_lem : (s : Refusal) → read_chart second ≡ Err s → r ≡ of_second s → Refusing first second r
   of_both : (number : ℕ) → 18 ≤ number → number ≤ 20 → r ≡ lent_refusal number → Refusing first second r
 
 pub two_refused : (first second : List ℕ) (r : Refusal) → read_two first second ≡ refused r → Refusing first second r
 two_refused first second r = by_first (read_chart first) refl
   where
-    together : (x y z : Bool) (c d : Chart) → where_together (pick x (Bad (lent_refusal 18)) (pick y (Bad (lent_refusal 19)) (pick z (Bad (lent_refusal 20)) Fine))) c d ≡ refused r → Refusing first second r
+    together : (x y z : Bool) (c d : Chart) → where_together (pick x (Err (lent_refusal 18)) (pick y (Err (lent_refusal 19)) (pick z (Err (lent_refusal 20)) faultless))) c d ≡ refused r → Refusing first second r
     together true y z c d h = let e : r ≡ lent_refusal 18 = cc in of_both 18 (omega arith) (omega arith) e
     together false true z c d h = let e : r ≡ lent_refusal 19 = cc in of_both 19 (omega arith) (omega arith) e
     together false false true c d h = let e : r ≡ lent_refusal 20 = cc in of_both 20 (omega arith) (omega arith) e
     together false false false c d h = let z : ◌≡◌ {A = ℕ} 0 1 = cc in absurd (omega arith)
 
-    by_second : (c : Chart) (x : ChartRead) → read_chart second ≡ x → read_second second c x ≡ refused r → Refusing first second r
-    by_second c (Read.Chart b) f h = let d = chart_in second b in together (ltb 64 (states c + states d)) (ltb 32 (length (joint_codes c d))) (ltb 1024 (transitions c + transitions d)) c d h
-    by_second c (Read.Refused s) f h = let e : r ≡ of_second s = cc in of_second_lem s f e
+    by_second : (c : Chart) (x : Result Shape Refusal) → read_chart second ≡ x → read_second second c x ≡ refused r → Refusing first second r
+    by_second c (Ok b) f h = let d = chart_in second b in together (ltb 64 (states c + states d)) (ltb 32 (length (joint_codes c d))) (ltb 1024 (transitions c + transitions d)) c d h
+    by_second c (Err s) f h = let e : r ≡ of_second s = cc in of_second_lem s f e
 
-    by_first : (x : ChartRead) → read_chart first ≡ x → read_first first second x ≡ refused r → Refusing first second r
-    by_first (Read.Chart a) e h = by_second (chart_in first a) (read_chart second) refl h
-    by_first (Read.Refused s) e h = let f : s ≡ r = cc in of_first (e ∙ ap Read.Refused f)
+    by_first : (x : Result Shape Refusal) → read_chart first ≡ x → read_first first second x ≡ refused r → Refusing first second r
+    by_first (Ok a) e h = by_second (chart_in first a) (read_chart second) refl h
+    by_first (Err s) e h = let f : s ≡ r = cc in of_first (e ∙ ap Err f)
 
 -- a refusal of a chart, the first (input 0) or the second (3), says what is wrong in that chart's own bytes
 abbrev pub OwnFault : List ℕ → List ℕ → Refusal → Type 0

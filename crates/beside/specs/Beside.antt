@@ -3,10 +3,11 @@ use Rattle.std.specs.Prelude.{ℕ, ◌+◌, Bool, List, [], ◌∷◌, ◌++◌,
 use Rattle.settle.specs.Test.{pick, either, any_of}
 use Rattle.refusal.specs.Refusal.{lent_refusal}
 use Rattle.chart.specs.Chart.{Step, Chart, states, transitions}
-use Rattle.chart.specs.declared.Judged.{Judged}
-use Rattle.chart.specs.declared.Judged.TheVariants.{Fine, Bad}
 use Rattle.beside.specs.Partner.{code_of}
 use Rattle.beside.specs.Chosen.{chosen}
+use Rattle.std.specs.Prelude.{Err}
+use Rattle.chart.specs.Reading.{Judged}
+use Rattle.chart.specs.Reading.{faultless}
 
 -- ---- actions, matched by code
 
@@ -42,6 +43,6 @@ beside c d =
 -- 18: states above 64 together; 19: distinct action codes above 32; 20: transitions above 1,024 together; all of the buffer's input, place 0
 abbrev pub judge_together : Chart → Chart → Judged
 judge_together c d =
-    pick (ltb 64 (states c + states d)) (Bad (lent_refusal 18)) (
-    pick (ltb 32 (length (joint_codes c d))) (Bad (lent_refusal 19)) (
-    pick (ltb 1024 (transitions c + transitions d)) (Bad (lent_refusal 20)) Fine))
+    pick (ltb 64 (states c + states d)) (Err (lent_refusal 18)) (
+    pick (ltb 32 (length (joint_codes c d))) (Err (lent_refusal 19)) (
+    pick (ltb 1024 (transitions c + transitions d)) (Err (lent_refusal 20)) faultless))

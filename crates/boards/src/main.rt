@@ -3,77 +3,37 @@
 
 ghost use Rattle.std.specs.Prelude.{◌≡◌, IsTrue};
 ghost use Rattle.chart.specs.Reading.{read_chart};
+ghost use Rattle.sheet.specs.Kinds.{kind_number};
 ghost use Rattle.sheet.specs.Reading.{read_sheet, sheet_read};
-ghost use Rattle.boards.specs.Outcome.{refused_as, chart_accepted, chart_refused, sheet_accepted, sheet_refused};
+ghost use Rattle.boards.specs.Outcome.{chart_accepted, chart_refused, sheet_accepted, sheet_refused};
 
-use chart::ChartRead;
+use chart::Shape;
 use refusal::Refusal;
-use sheet::SheetRead;
+use sheet::{Kind, Outline};
 use std::io;
-
-fn refused_as(given: Refusal, input: u8, number: u8, place: usize, byte: u8) -> bool
-    ensures { result ≡ refused_as input number place byte given }
-{
-    let at_fault = given.input;
-    if refusal::input_number(at_fault) == input {
-        if given.number == number {
-            if given.place == place {
-                return given.byte == byte;
-            }
-            return false;
-        }
-        return false;
-    }
-    false
-}
 
 fn chart_accepted(bytes: &[u8], n: usize, m: usize, t: usize) -> bool
     ensures { result ≡ chart_accepted n m t (read_chart bytes.now) }
 {
-    match chart::read_chart(bytes) {
-        ChartRead::Refused(_) => false,
-        ChartRead::Chart(shape) => {
-            if shape.n == n {
-                if shape.m == m {
-                    return shape.t == t;
-                }
-                return false;
-            }
-            false
-        }
-    }
+    chart::read_chart(bytes) == Ok(Shape { n, m, t })
 }
 
 fn chart_refused(bytes: &[u8], number: u8, place: usize, byte: u8) -> bool
     ensures { result ≡ chart_refused number place byte (read_chart bytes.now) }
 {
-    match chart::read_chart(bytes) {
-        ChartRead::Chart(_) => false,
-        ChartRead::Refused(r) => refused_as(r, 0, number, place, byte),
-    }
+    chart::read_chart(bytes) == Err(Refusal::of_chart(number, place, byte))
 }
 
-fn sheet_accepted(bytes: &[u8], m: usize, kind: u8, nodes: usize) -> bool
-    ensures { result ≡ sheet_accepted kind nodes (sheet_read (read_sheet bytes.now m)) }
+fn sheet_accepted(bytes: &[u8], m: usize, kind: Kind, nodes: usize) -> bool
+    ensures { result ≡ sheet_accepted (kind_number kind) nodes (sheet_read (read_sheet bytes.now m)) }
 {
-    match sheet::read_sheet(bytes, m) {
-        SheetRead::Refused(_) => false,
-        SheetRead::Sheet(outline) => {
-            if outline.kind == kind {
-                return outline.nodes == nodes;
-            }
-            false
-        }
-    }
+    sheet::read_sheet(bytes, m) == Ok(Outline { kind, nodes })
 }
 
 fn sheet_refused(bytes: &[u8], m: usize, number: u8, place: usize) -> bool
     ensures { result ≡ sheet_refused number place (sheet_read (read_sheet bytes.now m)) }
 {
-    match sheet::read_sheet(bytes, m) {
-        SheetRead::Sheet(_) => false,
-        SheetRead::Refused(r) => refused_as(r, 1, number, place, 0),
-    }
+    sheet::read_sheet(bytes, m) == Err(Refusal::of_sheet(number, place))
 }
 
 // A check that has to be proved where it is made. It is run all the same: a division by zero would end a run in which it is false.
@@ -81,7 +41,7 @@ fn expect(holds: bool)
     requires { IsTrue holds }
 {
     let one: u8 = 1;
-    let _quotient = one / (holds as u8);
+    let _quotient = one / u8::from(holds);
 }
 
 // The counts: n, m and t at their limits and beyond.
@@ -157,7 +117,7 @@ fn sheet_heads() {
     expect(sheet_refused(b"\x01\x02", 3, 1, 2));
     expect(sheet_refused(b"\x01\x02\x00", 3, 10, 2));
     expect(sheet_refused(b"\x01\x02\xc9", 3, 10, 2));
-    expect(sheet_accepted(b"\x01\x00\x02\x05\xff\x01", 0, 0, 2));
+    expect(sheet_accepted(b"\x01\x00\x02\x05\xff\x01", 0, Kind::Unsaid, 2));
 }
 
 // A node above 6, an action byte out of range, an absent one, bytes left over.
@@ -190,7 +150,7 @@ fn with_codes(chart: [u8; 3172]) -> [u8; 3172] {
     let mut bytes = chart;
     bytes[65] = 32;
     for a in 0..32u8 {
-        bytes[66 + a as usize] = a;
+        bytes[66 + usize::from(a)] = a;
     }
     bytes
 }
@@ -224,9 +184,7 @@ fn print(rt: &impl Print, title: &str, ok: bool) -> io::Result<()> {
 // The same bytes and one more.
 fn one_more(chart: [u8; 3172]) -> [u8; 3173] {
     let mut bytes = [0u8; 3173];
-    for i in 0..3172usize {
-        bytes[i] = chart[i];
-    }
+    bytes[..3172].copy_from_slice(&chart);
     bytes
 }
 

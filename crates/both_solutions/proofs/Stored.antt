@@ -10,7 +10,6 @@ use native.Mathlib.Decide.{dec_lt}
 use Rattle.chart.specs.Chart.{Chart, states}
 use Rattle.chart.specs.Reading.{chart_in, read_chart}
 use Rattle.chart.specs.declared.Shape.{Shape}
-use Rattle.chart.specs.declared.ChartRead.TheVariants as Read
 use Rattle.sheet.specs.Formula.{Formula, variable_free}
 use Rattle.sheet.specs.Reading.{sheet, read_sheet}
 use Rattle.sheet.specs.Solution.{Satisfies}
@@ -22,11 +21,11 @@ use Rattle.words.specs.Words.{member}
 use Rattle.property.proofs.Promise.{same_word}
 use Rattle.both_solutions.specs.Promise.{BothSolved, BothPromise}
 use Rattle.both_solutions.specs.declared.Solutions.{Solutions}
-use Rattle.both_solutions.specs.declared.BothAnswer.TheVariants.{Both}
 use Rattle.both_solutions.proofs.Halves.{solved, least_inside_greatest}
+use Rattle.std.specs.Prelude.{Ok}
 
-module _ (chart bytes : List ℕ) (sh : Shape) (kind nodes : ℕ) (f : Formula) (e : read_chart chart ≡ Read.Chart sh) (d : read_sheet bytes sh.m ≡ sheet kind nodes f)
-    (a : Solutions) (P : BothPromise chart bytes (Both a)) where
+module _ (chart bytes : List ℕ) (sh : Shape) (kind nodes : ℕ) (f : Formula) (e : read_chart chart ≡ Ok sh) (d : read_sheet bytes sh.m ≡ sheet kind nodes f)
+    (a : Solutions) (P : BothPromise chart bytes (Ok a)) where
   abbrev c : Chart
   c = chart_in chart sh
 

@@ -2,26 +2,27 @@
 use Prim.Native.Nat.{ℕ}
 use mathlib.Core.Path.{◌≡◌, ap, sym, ◌∙◌}
 use mathlib.Core.List.{List}
-use Rattle.relation.specs.declared.MatrixAnswer.{MatrixAnswer}
 use Rattle.marks.proofs.Promise.{marks_determined}
 use Rattle.simulation.proofs.Promise.{simulation_determined}
 use Rattle.equal.proofs.Promise.{rows_determined, pairs_determined}
 use Rattle.property.proofs.Promise.{property_determined}
 use Rattle.both_solutions.proofs.Promise.{both_determined}
 use Rattle.short_form.proofs.Promise.{short_form_determined}
-use Rattle.lent.specs.declared.LentAnswer.{LentAnswer}
 use Rattle.reasons.proofs.Promise.{reasons_determined}
 use Rattle.check_reasons.proofs.Promise.{check_determined}
 use Rattle.compare.proofs.Determined.{compare_determined}
 use Rattle.calls.specs.Shown.{lent, matrix_code, matrix_states, matrix_rounds, MatrixShown, MarksShown, SimulationShown, equal_code, counted_left, EqualRowsShown, EqualPairsShown, property_code, word_left, count_left, rounds_left, PropertyShown, both_code, least_left, greatest_left, BothShown, written_code, written_left, WrittenShown, ShortFormShown, ReasonsShown, check_code, lines_left, CheckShown, compare_code, compare_written, compare_rounds, CompareShown}
+use Rattle.std.specs.Prelude.{Result}
+use Rattle.refusal.specs.declared.Refusal.{Refusal}
+use Rattle.relation.specs.declared.Matrix.{Matrix}
 
 -- what follows from equal answers
 along : {A B : Type 0} (f : A → B) {x y : A} {m n : B} → x ≡ y → m ≡ f x → n ≡ f y → m ≡ n
 along f e p q = p ∙ ap f e ∙ sym q
 
 -- where the promise leaves no choice
-matrix_shown_determined : {Promise : List ℕ → List ℕ → List ℕ → MatrixAnswer → Type 0}
-    → ((chart old a b : List ℕ) (s t : MatrixAnswer) → Promise chart old a s → Promise chart old b t → (s ≡ t) × (a ≡ b))
+matrix_shown_determined : {Promise : List ℕ → List ℕ → List ℕ → Result Matrix Refusal → Type 0}
+    → ((chart old a b : List ℕ) (s t : Result Matrix Refusal) → Promise chart old a s → Promise chart old b t → (s ≡ t) × (a ≡ b))
     → (chart old a b : List ℕ) (s s₁ s₂ r r₁ r₂ c₁ c₂ : ℕ)
     → MatrixShown Promise chart old a (lent s s₁) (lent r r₁) c₁ → MatrixShown Promise chart old b (lent s s₂) (lent r r₂) c₂
     → (a ≡ b) × (c₁ ≡ c₂) × (s₁ ≡ s₂) × (r₁ ≡ r₂)
@@ -67,8 +68,8 @@ both_shown_determined chart sheet l l₁ l₂ g g₁ g₂ c₁ c₂ x y =
     let e = both_determined chart sheet _ _ x.promised y.promised in
     (along both_code e x.code_is y.code_is, along (least_left l) e x.least_is y.least_is, along (greatest_left g) e x.greatest_is y.greatest_is)
 
-written_shown_determined : {Promise : List ℕ → List ℕ → LentAnswer → Type 0}
-    → ((old a b : List ℕ) (s t : LentAnswer) → Promise old a s → Promise old b t → (s ≡ t) × (a ≡ b))
+written_shown_determined : {Promise : List ℕ → List ℕ → Result ℕ Refusal → Type 0}
+    → ((old a b : List ℕ) (s t : Result ℕ Refusal) → Promise old a s → Promise old b t → (s ≡ t) × (a ≡ b))
     → (old a b : List ℕ) (w w₁ w₂ c₁ c₂ : ℕ)
     → WrittenShown Promise old a (lent w w₁) c₁ → WrittenShown Promise old b (lent w w₂) c₂
     → (a ≡ b) × (c₁ ≡ c₂) × (w₁ ≡ w₂)

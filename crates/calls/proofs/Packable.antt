@@ -11,8 +11,6 @@ use Rattle.refusal.specs.Refusal.{lent_refusal}
 use Rattle.refusal.specs.declared.Refusal.{Refusal}
 use Rattle.chart.specs.Reading.{read_chart, chart_in}
 use Rattle.chart.specs.declared.Shape.{Shape}
-use Rattle.chart.specs.declared.ChartRead.{ChartRead}
-use Rattle.chart.specs.declared.ChartRead.TheVariants as Read
 use Rattle.chart.proofs.Refused.{refused as chart_refused}
 use Rattle.chart.proofs.Accepted.{accepted}
 use Rattle.sheet.specs.Formula.{Formula, nodes}
@@ -20,19 +18,14 @@ use Rattle.sheet.specs.Reading.{Sheet, sheet, refused, read_sheet}
 use Rattle.sheet.proofs.Found.{number_some, number_few, bytes_few}
 use Rattle.sheet.proofs.Accepted.{layout_read, refusal_small}
 use Rattle.relation.specs.Promise.{Saying, Relations, MatrixPromise}
-use Rattle.relation.specs.declared.MatrixAnswer.TheVariants as Matrices
 use Rattle.equal.specs.Promise.{RowsPromise, PairsPromise}
-use Rattle.equal.specs.declared.EqualAnswer.TheVariants as Equal
 use Rattle.equal.proofs.Promise.{rows_refused_exactly, pairs_refused_exactly}
-use Rattle.solve.specs.declared.PropertyAnswer.TheVariants as Property
 use Rattle.property.specs.Promise.{PropertyPromise}
 use Rattle.property.proofs.SheetPromise.{Unread, of_chart, of_sheet}
 use Rattle.property.proofs.Promise.{property_refused_exactly}
 use Rattle.both_solutions.specs.Promise.{BothPromise}
-use Rattle.both_solutions.specs.declared.BothAnswer.TheVariants as Both
 use Rattle.both_solutions.proofs.Promise.{both_refused_exactly}
 use Rattle.lent.specs.Lent.{refuses}
-use Rattle.lent.specs.declared.LentAnswer.TheVariants as Lent
 use Rattle.lent.proofs.Lent.{no_bytes, refused_by}
 use Rattle.short_form.specs.Promise.{Form, form_of, form_of_sheet, form_of_chart, outcome_of, ShortFormPromise}
 use Rattle.short_form.proofs.Scan.{before_within}
@@ -44,12 +37,11 @@ use Rattle.reasons.specs.Promise.{ReasonsPromise}
 use Rattle.reasons.specs.Promise as Reasons
 use Rattle.check_reasons.specs.Promise.{CheckPromise}
 use Rattle.check_reasons.specs.Promise as Checks
-use Rattle.check_reasons.specs.declared.CheckAnswer.TheVariants as Check
 use Rattle.beside.proofs.Reading.{Refusing, of_first, of_second_lem, of_both, two_refused}
 use Rattle.compare.specs.Promise.{ComparePromise}
-use Rattle.compare.specs.declared.CompareAnswer.TheVariants as Compare
 use Rattle.compare.proofs.Told.{compare_refused}
 use Rattle.calls.proofs.Packing.{Packable}
+use Rattle.std.specs.Prelude.{Result, Ok, Err}
 
 packable_as : {r s : Refusal} → r ≡ s → Packable s → Packable r
 packable_as e h = subst⁻¹ Packable e h
@@ -57,7 +49,7 @@ packable_as e h = subst⁻¹ Packable e h
 fits : {r : Refusal} → 1 ≤ r.number → r.number ≤ 21 → r.place ≤ 4032 → r.byte ≤ 2 → Packable r
 fits some few near within = record { number_some = some; number_few = few; place_few = near; byte_few = within }
 
-chart_packable : (chart : List ℕ) (r : Refusal) → read_chart chart ≡ Read.Refused r → Packable r
+chart_packable : (chart : List ℕ) (r : Refusal) → read_chart chart ≡ Err r → Packable r
 chart_packable chart r e = let p = chart_refused chart r e in fits p.number_some (omega (arith, p.number_few)) (omega (arith, p.place_few)) (omega (arith, p.byte_few))
 
 sheet_packable : (bytes : List ℕ) (m : ℕ) (r : Refusal) → read_sheet bytes m ≡ refused r → Packable r
@@ -66,28 +58,29 @@ sheet_packable bytes m r e = let p = refusal_small bytes m r e in fits (number_s
 lent_packable : (number : ℕ) → 1 ≤ number → number ≤ 21 → Packable (lent_refusal number)
 lent_packable number some few = fits some few (omega arith) (omega arith)
 
+-- an answer that refuses has one refusal
+out : {X : Type 0} (r s : Refusal) → ◌≡◌ {A = Result X Refusal} (Err r) (Err s) → r ≡ s
+out r s e = cc
+
 -- ---- marks and simulation
 
-pub matrix_packable : {Says : Saying} {R : Relations} (chart old new : List ℕ) (r : Refusal) → MatrixPromise Says R chart old new (Matrices.Refused r) → Packable r
+pub matrix_packable : {Says : Saying} {R : Relations} (chart old new : List ℕ) (r : Refusal) → MatrixPromise Says R chart old new (Err r) → Packable r
 matrix_packable chart old new r p = by_chart (read_chart chart) refl
   where
-    out : (s : Refusal) → Matrices.Refused r ≡ Matrices.Refused s → r ≡ s
-    out s e = cc
-
-    by_room : (sh : Shape) → read_chart chart ≡ Read.Chart sh → Dec (length old < sh.n * sh.n) → Packable r
-    by_room sh e (yes l) = packable_as (out _ (p.then_too_short sh e l)) (lent_packable 14 (omega arith) (omega arith))
+    by_room : (sh : Shape) → read_chart chart ≡ Ok sh → Dec (length old < sh.n * sh.n) → Packable r
+    by_room sh e (yes l) = packable_as (out r _ (p.then_too_short sh e l)) (lent_packable 14 (omega arith) (omega arith))
     by_room sh e (no l) = packable_as (p.then_answered sh e (omega arith)).0 (lent_packable 15 (omega arith) (omega arith))
 
-    by_chart : (x : ChartRead) → read_chart chart ≡ x → Packable r
-    by_chart (Read.Refused s) e = packable_as (out s (p.chart_refused s e)) (chart_packable chart s e)
-    by_chart (Read.Chart sh) e = by_room sh e (dec_lt (length old) (sh.n * sh.n))
+    by_chart : (x : Result Shape Refusal) → read_chart chart ≡ x → Packable r
+    by_chart (Err s) e = packable_as (out r s (p.chart_refused s e)) (chart_packable chart s e)
+    by_chart (Ok sh) e = by_room sh e (dec_lt (length old) (sh.n * sh.n))
 
 -- ---- equal rows and equal pairs
 
-pub rows_packable : (chart old new : List ℕ) (r : Refusal) → RowsPromise chart old new (Equal.Refused r) → Packable r
+pub rows_packable : (chart old new : List ℕ) (r : Refusal) → RowsPromise chart old new (Err r) → Packable r
 rows_packable chart old new r p = chart_packable chart r ((rows_refused_exactly chart old new _ p r).0 refl)
 
-pub pairs_packable : (chart : List ℕ) (r : Refusal) → PairsPromise chart (Equal.Refused r) → Packable r
+pub pairs_packable : (chart : List ℕ) (r : Refusal) → PairsPromise chart (Err r) → Packable r
 pairs_packable chart r p = chart_packable chart r ((pairs_refused_exactly chart _ p r).0 refl)
 
 -- ---- property, and both solutions
@@ -96,10 +89,10 @@ unread_packable : (chart bytes : List ℕ) (r : Refusal) → Unread chart bytes 
 unread_packable chart bytes r (of_chart e) = chart_packable chart r e
 unread_packable chart bytes r (of_sheet sh e d) = sheet_packable bytes sh.m r d
 
-pub property_packable : (chart bytes : List ℕ) (r : Refusal) → PropertyPromise chart bytes (Property.Refused r) → Packable r
+pub property_packable : (chart bytes : List ℕ) (r : Refusal) → PropertyPromise chart bytes (Err r) → Packable r
 property_packable chart bytes r p = unread_packable chart bytes r ((property_refused_exactly chart bytes r).0 p)
 
-pub both_packable : (chart bytes : List ℕ) (r : Refusal) → BothPromise chart bytes (Both.Refused r) → Packable r
+pub both_packable : (chart bytes : List ℕ) (r : Refusal) → BothPromise chart bytes (Err r) → Packable r
 both_packable chart bytes r p = unread_packable chart bytes r ((both_refused_exactly chart bytes r).0 p)
 
 -- ---- short form
@@ -115,41 +108,38 @@ form_packable name f r few =
     (λ e. packable_as (refuses_is e) (fits (omega arith) (omega arith) (omega arith) (omega arith)))
     (λ v h e. no_bytes (sym e))
 
-pub short_form_packable : (chart bytes : List ℕ) (name : ℕ) (old new : List ℕ) (r : Refusal) → ShortFormPromise chart bytes name old new (Lent.Refused r) → Packable r
+pub short_form_packable : (chart bytes : List ℕ) (name : ℕ) (old new : List ℕ) (r : Refusal) → ShortFormPromise chart bytes name old new (Err r) → Packable r
 short_form_packable chart bytes name old new r p = ⊎_elim (by_chart (read_chart chart) refl) (λ e. packable_as e (lent_packable 14 (omega arith) (omega arith))) (refused_by _ old new r p)
   where
     by_sheet : (sh : Shape) (x : Sheet) → read_sheet bytes sh.m ≡ x → outcome_of (form_of_sheet name x) ≡ refuses r → Packable r
     by_sheet sh (refused s) d e = packable_as (refuses_is e) (sheet_packable bytes sh.m s d)
     by_sheet sh (sheet kind count f) d e = form_packable name f r (layout_read bytes sh.m kind count f d).1.nodes_few e
 
-    by_chart : (x : ChartRead) → read_chart chart ≡ x → outcome_of (form_of_chart bytes name x) ≡ refuses r → Packable r
-    by_chart (Read.Refused s) d e = packable_as (refuses_is e) (chart_packable chart s d)
-    by_chart (Read.Chart sh) d e = by_sheet sh (read_sheet bytes sh.m) refl e
+    by_chart : (x : Result Shape Refusal) → read_chart chart ≡ x → outcome_of (form_of_chart bytes name x) ≡ refuses r → Packable r
+    by_chart (Err s) d e = packable_as (refuses_is e) (chart_packable chart s d)
+    by_chart (Ok sh) d e = by_sheet sh (read_sheet bytes sh.m) refl e
 
 -- ---- reasons, and the check of a list
 
-pub reasons_packable : (chart old new : List ℕ) (r : Refusal) → ReasonsPromise chart old new (Lent.Refused r) → Packable r
+pub reasons_packable : (chart old new : List ℕ) (r : Refusal) → ReasonsPromise chart old new (Err r) → Packable r
 reasons_packable chart old new r = by_chart (read_chart chart) refl
   where
-    by_chart : (x : ChartRead) → read_chart chart ≡ x → Reasons.Answers chart x old new (Lent.Refused r) → Packable r
-    by_chart (Read.Refused s) e p = ⊎_elim (λ f. packable_as (refuses_is f) (chart_packable chart s e)) (λ f. packable_as f (lent_packable 14 (omega arith) (omega arith))) (refused_by _ old new r p)
-    by_chart (Read.Chart sh) e p = ⊎_elim (λ f. no_bytes (sym f)) (λ f. packable_as f (lent_packable 14 (omega arith) (omega arith))) (refused_by _ old new r p.written)
+    by_chart : (x : Result Shape Refusal) → read_chart chart ≡ x → Reasons.Answers chart x old new (Err r) → Packable r
+    by_chart (Err s) e p = ⊎_elim (λ f. packable_as (refuses_is f) (chart_packable chart s e)) (λ f. packable_as f (lent_packable 14 (omega arith) (omega arith))) (refused_by _ old new r p)
+    by_chart (Ok sh) e p = ⊎_elim (λ f. no_bytes (sym f)) (λ f. packable_as f (lent_packable 14 (omega arith) (omega arith))) (refused_by _ old new r p.written)
 
-pub check_packable : (chart list : List ℕ) (r : Refusal) → CheckPromise chart list (Check.Refused r) → Packable r
+pub check_packable : (chart list : List ℕ) (r : Refusal) → CheckPromise chart list (Err r) → Packable r
 check_packable chart list r = by_chart (read_chart chart) refl
   where
-    out : (s : Refusal) → Check.Refused r ≡ Check.Refused s → r ≡ s
-    out s e = cc
-
-    by_chart : (x : ChartRead) → read_chart chart ≡ x → Checks.Answers chart x list (Check.Refused r) → Packable r
-    by_chart (Read.Refused s) e p = packable_as (out s p) (chart_packable chart s e)
-    by_chart (Read.Chart sh) e (i, f, b) =
+    by_chart : (x : Result Shape Refusal) → read_chart chart ≡ x → Checks.Answers chart x list (Err r) → Packable r
+    by_chart (Err s) e p = packable_as (out r s p) (chart_packable chart s e)
+    by_chart (Ok sh) e (i, f, b) =
         let few = good_few sh.n (chart_in chart sh).steps (lines_in list i) b.earlier_good in
         packable_as f (fits (omega arith) (omega arith) (omega (arith, lines_length list i, few, pairs_few sh.n (accepted chart sh e).states_few)) (omega arith))
 
 -- ---- compare
 
-pub compare_packable : (first second old new : List ℕ) (r : Refusal) → ComparePromise first second old new (Compare.Refused r) → Packable r
+pub compare_packable : (first second old new : List ℕ) (r : Refusal) → ComparePromise first second old new (Err r) → Packable r
 compare_packable first second old new r p = ⊎_elim (λ e. by_reading (two_refused first second r e)) (λ e. packable_as e (lent_packable 14 (omega arith) (omega arith))) (compare_refused first second old new r p).0
   where
     by_reading : Refusing first second r → Packable r

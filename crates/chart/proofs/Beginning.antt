@@ -15,29 +15,28 @@ use Rattle.refusal.specs.Refusal.{chart_refusal}
 use Rattle.refusal.specs.declared.Input as Input
 use Rattle.refusal.specs.declared.Refusal.{Refusal}
 use Rattle.chart.specs.Layout.{longest_chart}
-use Rattle.chart.specs.Reading.{and_then, presence, code_order, judge_codes, judge_byte, triple_order, judge_triple, judge_triples, where_fine, read_transitions, read_actions, read_chart}
+use Rattle.chart.specs.Reading.{and_then, presence, code_order, judge_codes, judge_byte, triple_order, judge_triple, judge_triples, and_then, read_transitions, read_actions, read_chart}
 use Rattle.chart.specs.Fault.{states_in, actions_in, triple_at, fault_at}
-use Rattle.chart.specs.declared.Judged.{Judged}
-use Rattle.chart.specs.declared.Judged.TheVariants.{Fine, Bad}
 use Rattle.chart.specs.declared.Shape.{Shape}
-use Rattle.chart.specs.declared.ChartRead.{ChartRead}
-use Rattle.chart.specs.declared.ChartRead.TheVariants as Read
 use Rattle.chart.proofs.Reading.{present, byte_fine}
 use Rattle.chart.proofs.Judging.{triples_fine}
 use Rattle.chart.proofs.Accepted.{accepted, accepted_short, reached}
 use Rattle.chart.proofs.Refused.{Placed, refused}
 use Rattle.chart.proofs.Continued.{same_test, needed_byte, left_over}
+use Rattle.std.specs.Prelude.{Result, Ok, Err}
+use Rattle.chart.specs.Reading.{Judged}
+use Rattle.chart.specs.Reading.{faultless}
 
 -- ---- judging: a needed byte is absent from s, or s is judged as the whole is
 
 abbrev Kept : List ℕ → Judged → Judged → Type 0
-Kept s a whole = (a ≡ Bad (chart_refusal 1 (length s) 0)) ⊎ (whole ≡ a)
+Kept s a whole = (a ≡ Err (chart_refusal 1 (length s) 0)) ⊎ (whole ≡ a)
 
-then_kept : (s : List ℕ) (a a' b b' : Judged) → Kept s a a' → (a ≡ Fine → Kept s b b') → Kept s (and_then a b) (and_then a' b')
-then_kept s Fine a' b b' (inl e) g = let z : ◌≡◌ {A = ℕ} 0 1 = cc in absurd (omega arith)
-then_kept s Fine a' b b' (inr e) g = rw e (g refl)
-then_kept s (Bad r) a' b b' (inl e) g = inl e
-then_kept s (Bad r) a' b b' (inr e) g = rw e (inr refl)
+then_kept : (s : List ℕ) (a a' b b' : Judged) → Kept s a a' → (a ≡ faultless → Kept s b b') → Kept s (and_then a b) (and_then a' b')
+then_kept s (Ok tt) a' b b' (inl e) g = let z : ◌≡◌ {A = ℕ} 0 1 = cc in absurd (omega arith)
+then_kept s (Ok tt) a' b b' (inr e) g = rw e (g refl)
+then_kept s (Err r) a' b b' (inl e) g = inl e
+then_kept s (Err r) a' b b' (inr e) g = rw e (inr refl)
 
 presence_kept : (s more : List ℕ) (p : ℕ) → Kept s (presence s p) (presence (s ++ more) p)
 presence_kept s more p = needed_byte (Kept s) s more p _ (λ _. inl refl) (λ _. inr refl)
@@ -83,26 +82,26 @@ triples_kept s more n m p i (suc k) =
 
 -- ---- section by section: a needed byte is absent from s, or s is read as the whole is, or s is a whole chart and what follows is refused 8
 
-abbrev Fate : List ℕ → ChartRead → ChartRead → Type 0
+abbrev Fate : List ℕ → Result Shape Refusal → Result Shape Refusal → Type 0
 Fate s a whole =
-    (a ≡ Read.Refused (chart_refusal 1 (length s) 0))
-    ⊎ ((whole ≡ a) ⊎ ((sh : Shape) × (a ≡ Read.Chart sh) × (whole ≡ Read.Refused (chart_refusal 8 (length s) 0))))
+    (a ≡ Err (chart_refusal 1 (length s) 0))
+    ⊎ ((whole ≡ a) ⊎ ((sh : Shape) × (a ≡ Ok sh) × (whole ≡ Err (chart_refusal 8 (length s) 0))))
 
-where_kept : (s : List ℕ) (a a' : Judged) (k k' : ChartRead) → Kept s a a' → (a ≡ Fine → Fate s k k') → Fate s (where_fine a k) (where_fine a' k')
-where_kept s Fine a' k k' (inl e) g = let z : ◌≡◌ {A = ℕ} 0 1 = cc in absurd (omega arith)
-where_kept s Fine a' k k' (inr e) g = rw e (g refl)
-where_kept s (Bad r) a' k k' (inl e) g = let z : r ≡ chart_refusal 1 (length s) 0 = cc in inl (ap Read.Refused z)
-where_kept s (Bad r) a' k k' (inr e) g = rw e (inr (inl refl))
+where_kept : (s : List ℕ) (a a' : Judged) (k k' : Result Shape Refusal) → Kept s a a' → (a ≡ faultless → Fate s k k') → Fate s (and_then a k) (and_then a' k')
+where_kept s (Ok tt) a' k k' (inl e) g = let z : ◌≡◌ {A = ℕ} 0 1 = cc in absurd (omega arith)
+where_kept s (Ok tt) a' k k' (inr e) g = rw e (g refl)
+where_kept s (Err r) a' k k' (inl e) g = let z : r ≡ chart_refusal 1 (length s) 0 = cc in inl (ap Err z)
+where_kept s (Err r) a' k k' (inr e) g = rw e (inr (inl refl))
 
 -- a chart that ends at q
-abbrev ended : List ℕ → ℕ → Shape → ChartRead
-ended s q sh = pick (ltb q (length s)) (Read.Refused (chart_refusal 8 q 0)) (Read.Chart sh)
+abbrev ended : List ℕ → ℕ → Shape → Result Shape Refusal
+ended s q sh = pick (ltb q (length s)) (Err (chart_refusal 8 q 0)) (Ok sh)
 
 end_kept : (s more : List ℕ) (q : ℕ) (sh : Shape) → q ≤ length s → Fate s (ended s q sh) (ended (s ++ more) q sh)
-end_kept s more q sh h = left_over (Fate s) s more q h (inr (inl refl)) (inr (inl refl)) (λ e. inr (inr (sh, refl, ap (λ (k : ℕ). Read.Refused (chart_refusal 8 k 0)) e)))
+end_kept s more q sh h = left_over (Fate s) s more q h (inr (inl refl)) (inr (inl refl)) (λ e. inr (inr (sh, refl, ap (λ (k : ℕ). Err (chart_refusal 8 k 0)) e)))
 
 steps_kept : (s more : List ℕ) (p : ℕ) (sh : Shape) → p ≤ length s
-    → Fate s (where_fine (judge_triples s sh.n sh.m p 0 sh.t) (ended s (p + 3 * sh.t) sh)) (where_fine (judge_triples (s ++ more) sh.n sh.m p 0 sh.t) (ended (s ++ more) (p + 3 * sh.t) sh))
+    → Fate s (and_then (judge_triples s sh.n sh.m p 0 sh.t) (ended s (p + 3 * sh.t) sh)) (and_then (judge_triples (s ++ more) sh.n sh.m p 0 sh.t) (ended (s ++ more) (p + 3 * sh.t) sh))
 steps_kept s more p sh h =
     where_kept s (judge_triples s sh.n sh.m p 0 sh.t) _ _ _ (triples_kept s more sh.n sh.m p 0 sh.t) (λ e.
     end_kept s more (p + 3 * sh.t) sh (reached s sh.n sh.m p sh.t h (triples_fine s sh.n sh.m p 0 sh.t e)))
@@ -139,29 +138,29 @@ chart_kept s more =
 -- ---- what follows the first bytes
 
 -- a refusal other than 1 stands, whatever follows
-pub refusal_stands : (s more : List ℕ) (r : Refusal) → read_chart s ≡ Read.Refused r → (r.number ≡ 1 → ⊥) → read_chart (s ++ more) ≡ Read.Refused r
+pub refusal_stands : (s more : List ℕ) (r : Refusal) → read_chart s ≡ Err r → (r.number ≡ 1 → ⊥) → read_chart (s ++ more) ≡ Err r
 refusal_stands s more r e f = go (read_chart s) (read_chart (s ++ more)) e (chart_kept s more)
   where
-    go : (a whole : ChartRead) → a ≡ Read.Refused r → Fate s a whole → whole ≡ Read.Refused r
+    go : (a whole : Result Shape Refusal) → a ≡ Err r → Fate s a whole → whole ≡ Err r
     go a whole e (inl g) = let z : r ≡ chart_refusal 1 (length s) 0 = cc in absurd (f (ap (λ (x : Refusal). x.number) z))
     go a whole e (inr (inl g)) = g ∙ e
     go a whole e (inr (inr (sh, g, h))) = let z : ◌≡◌ {A = ℕ} 0 1 = cc in absurd (omega arith)
 
 -- bytes after a whole chart are refused 8 at the first
-pub whole_then_more : (s : List ℕ) (x : ℕ) (more : List ℕ) (sh : Shape) → read_chart s ≡ Read.Chart sh → read_chart (s ++ (x ∷ more)) ≡ Read.Refused (chart_refusal 8 (length s) 0)
+pub whole_then_more : (s : List ℕ) (x : ℕ) (more : List ℕ) (sh : Shape) → read_chart s ≡ Ok sh → read_chart (s ++ (x ∷ more)) ≡ Err (chart_refusal 8 (length s) 0)
 whole_then_more s x more sh e = go (read_chart s) (read_chart (s ++ (x ∷ more))) e refl (chart_kept s (x ∷ more))
   where
-    go : (a whole : ChartRead) → a ≡ Read.Chart sh → read_chart (s ++ (x ∷ more)) ≡ whole → Fate s a whole → whole ≡ Read.Refused (chart_refusal 8 (length s) 0)
+    go : (a whole : Result Shape Refusal) → a ≡ Ok sh → read_chart (s ++ (x ∷ more)) ≡ whole → Fate s a whole → whole ≡ Err (chart_refusal 8 (length s) 0)
     go a whole i w (inl g) = let z : ◌≡◌ {A = ℕ} 0 1 = cc in absurd (omega arith)
     go a whole i w (inr (inl g)) =
         absurd (omega (arith, (accepted s sh e).whole, (accepted (s ++ (x ∷ more)) sh (w ∙ (g ∙ i))).whole, length-append s (x ∷ more)))
     go a whole i w (inr (inr (_, g, h))) = h
 
 -- a chart that breaks off is refused 1
-pub beginning_refused : (s : List ℕ) (x : ℕ) (more : List ℕ) (sh : Shape) → read_chart (s ++ (x ∷ more)) ≡ Read.Chart sh → read_chart s ≡ Read.Refused (chart_refusal 1 (length s) 0)
+pub beginning_refused : (s : List ℕ) (x : ℕ) (more : List ℕ) (sh : Shape) → read_chart (s ++ (x ∷ more)) ≡ Ok sh → read_chart s ≡ Err (chart_refusal 1 (length s) 0)
 beginning_refused s x more sh e = go (read_chart s) refl (chart_kept s (x ∷ more))
   where
-    go : (a : ChartRead) → read_chart s ≡ a → Fate s a (read_chart (s ++ (x ∷ more))) → a ≡ Read.Refused (chart_refusal 1 (length s) 0)
+    go : (a : Result Shape Refusal) → read_chart s ≡ a → Fate s a (read_chart (s ++ (x ∷ more))) → a ≡ Err (chart_refusal 1 (length s) 0)
     go a i (inl g) = g
     go a i (inr (inl g)) = absurd (omega (arith, (accepted s sh (i ∙ sym g ∙ e)).whole, (accepted (s ++ (x ∷ more)) sh e).whole, length-append s (x ∷ more)))
     go a i (inr (inr (_, g, h))) = let z : ◌≡◌ {A = ℕ} 0 1 = cc in absurd (omega arith)
@@ -200,8 +199,8 @@ fault_stays s more number place byte e h = go (eqb number 6) (eqb number 7) e h
     go false false e h = omega arith
 
 -- nothing before the byte at fault is at fault: the bytes before it only break off. 8 is left out, whose place is where the triples end
-pub before_the_fault : (s : List ℕ) (r : Refusal) → read_chart s ≡ Read.Refused r → (r.number ≡ 8 → ⊥)
-    → let at = fault_at s r.number r.place r.byte in read_chart (take at s) ≡ Read.Refused (chart_refusal 1 at 0)
+pub before_the_fault : (s : List ℕ) (r : Refusal) → read_chart s ≡ Err r → (r.number ≡ 8 → ⊥)
+    → let at = fault_at s r.number r.place r.byte in read_chart (take at s) ≡ Err (chart_refusal 1 at 0)
 before_the_fault s r e not-8 = elim (ℕ_discrete r.number 1) [ yes one ↦ breaks one | no other ↦ cut other (w.here other) ]
   where
     at : ℕ
@@ -210,21 +209,21 @@ before_the_fault s r e not-8 = elim (ℕ_discrete r.number 1) [ yes one ↦ brea
     w : Placed s r
     w = refused s r e
 
-    breaks : r.number ≡ 1 → read_chart (take at s) ≡ Read.Refused (chart_refusal 1 at 0)
+    breaks : r.number ≡ 1 → read_chart (take at s) ≡ Err (chart_refusal 1 at 0)
     breaks one =
         let q : at ≡ r.place = ap (λ (k : ℕ). fault_at s k r.place r.byte) one in
         let z : r ≡ chart_refusal 1 r.place 0 =
         ap₂ (λ (i : Input.Input) (k : ℕ). record { input = i; number = k; place = r.place; byte = r.byte }) w.of_chart one
         ∙ ap (chart_refusal 1 r.place) (w.byte_but_in_6 (λ six. omega arith)) in
-        rw q (ap read_chart (take_all r.place s (omega (arith, w.absent_at one))) ∙ e ∙ ap Read.Refused z)
+        rw q (ap read_chart (take_all r.place s (omega (arith, w.absent_at one))) ∙ e ∙ ap Err z)
 
-    number_8 : {k : ℕ} → Read.Refused r ≡ Read.Refused (chart_refusal 8 k 0) → r.number ≡ 8
+    number_8 : {k : ℕ} → ◌≡◌ {A = Result Shape Refusal} (Err r) (Err (chart_refusal 8 k 0)) → r.number ≡ 8
     number_8 {k} d = let y : r ≡ chart_refusal 8 k 0 = cc in ap (λ (x : Refusal). x.number) y
 
-    cut : (r.number ≡ 1 → ⊥) → at < length s → read_chart (take at s) ≡ Read.Refused (chart_refusal 1 at 0)
+    cut : (r.number ≡ 1 → ⊥) → at < length s → read_chart (take at s) ≡ Err (chart_refusal 1 at 0)
     cut other here = go (length-take-le at s (omega arith)) (rw (take-append-drop at s) at (chart_kept (take at s) (drop at s)))
       where
-        go : length (take at s) ≡ at → Fate (take at s) (read_chart (take at s)) (read_chart s) → read_chart (take at s) ≡ Read.Refused (chart_refusal 1 at 0)
-        go q (inl g) = g ∙ ap (λ (k : ℕ). Read.Refused (chart_refusal 1 k 0)) q
+        go : length (take at s) ≡ at → Fate (take at s) (read_chart (take at s)) (read_chart s) → read_chart (take at s) ≡ Err (chart_refusal 1 at 0)
+        go q (inl g) = g ∙ ap (λ (k : ℕ). Err (chart_refusal 1 k 0)) q
         go q (inr (inl g)) = absurd (fault_stays (take at s) (drop at s) r.number r.place r.byte (rw (take-append-drop at s) q) ((refused (take at s) r (sym g ∙ e)).here other))
         go q (inr (inr (sh, g, h))) = absurd (not-8 (number_8 (sym e ∙ h)))

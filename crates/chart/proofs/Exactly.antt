@@ -10,10 +10,10 @@ use Rattle.chart.specs.Chart.{Step, Chart, states, actions, transitions}
 use Rattle.chart.specs.Layout.{step_bytes, encode, Earlier, Rising, Bytes, WellFormed}
 use Rattle.chart.specs.Reading.{bytes_at, step_at, steps_at, chart_in, read_chart, shape_of, Reads, AcceptedExactly}
 use Rattle.chart.specs.declared.Shape.{Shape}
-use Rattle.chart.specs.declared.ChartRead.{ChartRead}
-use Rattle.chart.specs.declared.ChartRead.TheVariants as Read
 use Rattle.chart.proofs.Steps.{byte_then, first_byte, bytes_at_length, bytes_at_get_or, byte_member, steps_at_length, steps_at_get_or, step_member, member_step}
 use Rattle.chart.proofs.Accepted.{Accepted, accepted, accepts, same_shape}
+use Rattle.std.specs.Prelude.{Result, Ok}
+use Rattle.refusal.specs.declared.Refusal.{Refusal}
 
 -- ---- rising, by numbers
 
@@ -227,7 +227,7 @@ accepted_formed s sh B A =
 
 -- ---- accepted exactly
 
-pub read_well_formed : (s : List ℕ) (sh : Shape) → Bytes s → read_chart s ≡ Read.Chart sh
+pub read_well_formed : (s : List ℕ) (sh : Shape) → Bytes s → read_chart s ≡ Ok sh
     → WellFormed (chart_in s sh) × (s ≡ encode (chart_in s sh)) × (shape_of (chart_in s sh) ≡ sh)
 read_well_formed s sh B e =
     let A = accepted s sh e in
@@ -249,7 +249,7 @@ known_bytes (y ∷ s) h x m = go (Memᴰ.cases_cons m) (known_bytes s (λ i. h (
     go (inr m) rest = rest m
 
 -- what the reader promises of its bytes, which are bytes
-pub read_exactly : (s : List ℕ) → ((i : ℕ) → get_or s i 0 < 256) → {answer : ChartRead} → answer ≡ read_chart s → (answer ≡ read_chart s) × AcceptedExactly s answer
+pub read_exactly : (s : List ℕ) → ((i : ℕ) → get_or s i 0 < 256) → {answer : Result Shape Refusal} → answer ≡ read_chart s → (answer ≡ read_chart s) × AcceptedExactly s answer
 read_exactly s known e = (e, subst⁻¹ (AcceptedExactly s) e (accepted_exactly s (known_bytes s known)))
 
 -- no two charts have the same bytes

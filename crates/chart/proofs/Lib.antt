@@ -8,3 +8,4 @@ pub mod Continued
 pub mod Beginning
 pub mod Line
 pub mod Rising
+pub mod Order

@@ -11,16 +11,15 @@ use Rattle.refusal.specs.Refusal.{chart_refusal}
 use Rattle.refusal.specs.declared.Refusal.{Refusal}
 use Rattle.chart.specs.Reading.{judge_triple, judge_triples, read_transitions, read_actions, read_chart}
 use Rattle.chart.specs.Fault.{states_in, actions_in, transitions_in, triple_at, FineBefore, OutOfRange, NotGreater}
-use Rattle.chart.specs.declared.Judged.TheVariants.{Bad}
-use Rattle.chart.specs.declared.ChartRead.TheVariants as Read
 use Rattle.chart.proofs.Judging.{CodesIn, fine_codes, first_bad, rises_code, not_earlier}
 use Rattle.chart.proofs.Accepted.{steps_fine}
 use Rattle.chart.proofs.Refused.{tells_the_byte, tells_the_triple}
+use Rattle.std.specs.Prelude.{Err}
 
 module _ (s : List ℕ) where
   -- where nothing before the triples is at fault, their own first fault is the chart's
   triples_refused : (k : ℕ) (r : Refusal) → FineBefore s k → 3 + states_in s + actions_in s < length s
-      → judge_triples s (states_in s) (actions_in s) (4 + states_in s + actions_in s) 0 (transitions_in s) ≡ Bad r → read_chart s ≡ Read.Refused r
+      → judge_triples s (states_in s) (actions_in s) (4 + states_in s + actions_in s) 0 (transitions_in s) ≡ Err r → read_chart s ≡ Err r
   unfolding read_chart read_actions read_transitions
   triples_refused k r F long bad =
       let p₁ : 1 + states_in s + 1 ≡ 2 + states_in s = omega arith in
@@ -46,7 +45,7 @@ module _ (s : List ℕ) where
 
   -- so is the first triple that is not judged fine
   triple_refused : (i : ℕ) (r : Refusal) → i < transitions_in s → FineBefore s i → triple_at s i < length s
-      → judge_triple s (states_in s) (actions_in s) (triple_at s i) i ≡ Bad r → read_chart s ≡ Read.Refused r
+      → judge_triple s (states_in s) (actions_in s) (triple_at s i) i ≡ Err r → read_chart s ≡ Err r
   triple_refused i r few F there bad =
       let z : 0 + i ≡ i = omega arith in
       triples_refused i r F (omega arith)
@@ -57,7 +56,7 @@ module _ (s : List ℕ) where
   source_fine i byte f l = let q : triple_at s i + 0 ≡ triple_at s i = omega arith in rw q at (f.bytes_before 0 l)
 
   -- the byte that is out of range is judged so, and so is the triple that is not greater
-  byte_bad : (i byte : ℕ) → OutOfRange s i byte → judge_triple s (states_in s) (actions_in s) (triple_at s i) i ≡ Bad (chart_refusal 6 i byte)
+  byte_bad : (i byte : ℕ) → OutOfRange s i byte → judge_triple s (states_in s) (actions_in s) (triple_at s i) i ≡ Err (chart_refusal 6 i byte)
   byte_bad i zero f =
       let q : triple_at s i + 0 ≡ triple_at s i = omega arith in
       rw (lt-leb (length s) (triple_at s i) (omega (arith, f.there)), le-ltb (get_or s (triple_at s i) 0) (states_in s) (rw q at f.out_of_range))
@@ -79,7 +78,7 @@ module _ (s : List ℕ) where
       )
   byte_bad i (suc (suc (suc k))) f = absurd (omega (arith, f.byte_few))
 
-  order_bad : (i : ℕ) → NotGreater s i → judge_triple s (states_in s) (actions_in s) (triple_at s i) i ≡ Bad (chart_refusal 7 i 0)
+  order_bad : (i : ℕ) → NotGreater s i → judge_triple s (states_in s) (actions_in s) (triple_at s i) i ≡ Err (chart_refusal 7 i 0)
   order_bad i f =
       let q : triple_at s i - 3 ≡ triple_at s (i - 1) = omega (arith, f.not_first) in
       let there = f.there in
@@ -95,8 +94,8 @@ module _ (s : List ℕ) where
         not_earlier _ _ f.not_greater,
       )
 
-  pub six_exactly : (i byte : ℕ) → (read_chart s ≡ Read.Refused (chart_refusal 6 i byte)) ↔ OutOfRange s i byte
+  pub six_exactly : (i byte : ℕ) → (read_chart s ≡ Err (chart_refusal 6 i byte)) ↔ OutOfRange s i byte
   six_exactly i byte = (λ e. tells_the_byte s (chart_refusal 6 i byte) e refl, λ f. triple_refused i (chart_refusal 6 i byte) f.triple_few f.fine_before (omega (arith, f.there)) (byte_bad i byte f))
 
-  pub seven_exactly : (i : ℕ) → (read_chart s ≡ Read.Refused (chart_refusal 7 i 0)) ↔ NotGreater s i
+  pub seven_exactly : (i : ℕ) → (read_chart s ≡ Err (chart_refusal 7 i 0)) ↔ NotGreater s i
   seven_exactly i = (λ e. tells_the_triple s (chart_refusal 7 i 0) e refl, λ f. triple_refused i (chart_refusal 7 i 0) f.triple_few f.fine_before (omega (arith, f.there)) (order_bad i f))

@@ -16,15 +16,14 @@ use Rattle.settle.specs.Test.{pick}
 use Rattle.settle.proofs.Test.{never}
 use Rattle.refusal.specs.Refusal.{chart_refusal}
 use Rattle.chart.specs.Layout.{longest_chart, Earlier, StepIn}
-use Rattle.chart.specs.Reading.{step_at, and_then, presence, code_order, judge_codes, judge_byte, earlier, triple_order, judge_triple, judge_triples, where_fine, read_transitions, read_actions, read_chart}
+use Rattle.chart.specs.Reading.{step_at, and_then, presence, code_order, judge_codes, judge_byte, earlier, triple_order, judge_triple, judge_triples, and_then, read_transitions, read_actions, read_chart}
 use Rattle.chart.specs.Fault.{states_in, actions_in, transitions_in, triple_at, triple_in, bound_of, FineBefore, OutOfRange, NotGreater, AtFault, absent, states, actions, code, transitions, range, order, left_over, fault_at}
-use Rattle.chart.specs.declared.Judged.{Judged}
-use Rattle.chart.specs.declared.Judged.TheVariants.{Fine, Bad}
 use Rattle.chart.specs.declared.Shape.{Shape}
-use Rattle.chart.specs.declared.ChartRead.{ChartRead}
-use Rattle.chart.specs.declared.ChartRead.TheVariants as Read
 use Rattle.chart.proofs.Reading.{present, byte_fine, triple_fine}
 use Rattle.chart.proofs.Judging.{CodesIn, codes_fine, code_rises, is_earlier, triple_rises}
+use Rattle.std.specs.Prelude.{Result, Ok, Err}
+use Rattle.chart.specs.Reading.{Judged}
+use Rattle.chart.specs.Reading.{faultless}
 
 pub record Placed (s : List ℕ) (r : Refusal) : Type 0 where
   pub of_chart : r.input ≡ Input.Chart
@@ -51,10 +50,10 @@ told s number place byte (left_over n z _ _) = (omega arith, λ _. z, λ e. absu
 
 module _ (s : List ℕ) where
   record BadPlaced (a : Judged) : Type 0 where
-    where_bad : (r : Refusal) → a ≡ Bad r → Placed s r
+    where_bad : (r : Refusal) → a ≡ Err r → Placed s r
 
-  record RefusedPlaced (a : ChartRead) : Type 0 where
-    where_refused : (r : Refusal) → a ≡ Read.Refused r → Placed s r
+  record RefusedPlaced (a : Result Shape Refusal) : Type 0 where
+    where_refused : (r : Refusal) → a ≡ Err r → Placed s r
 
   -- a byte that is there is at fault
   placed : (number place byte : ℕ) → 2 ≤ number → number ≤ 8 → place ≤ longest_chart → fault_at s number place byte < length s
@@ -73,24 +72,24 @@ module _ (s : List ℕ) where
 
   -- ---- judging
 
-  fine_placed : BadPlaced Fine
+  fine_placed : BadPlaced faultless
   fine_placed = record { where_bad = λ r e. (let z : ◌≡◌ {A = ℕ} 0 1 = cc in absurd (omega arith)) }
 
-  bad_placed : (r : Refusal) → Placed s r → BadPlaced (Bad r)
+  bad_placed : (r : Refusal) → Placed s r → BadPlaced (Err r)
   bad_placed r f = record { where_bad = λ q e. (let z : r ≡ q = cc in rw z at f) }
 
-  then_placed : (a b : Judged) → BadPlaced a → (a ≡ Fine → BadPlaced b) → BadPlaced (and_then a b)
-  then_placed Fine b f g = g refl
-  then_placed (Bad r) b f g = f
+  then_placed : (a b : Judged) → BadPlaced a → (a ≡ faultless → BadPlaced b) → BadPlaced (and_then a b)
+  then_placed (Ok tt) b f g = g refl
+  then_placed (Err r) b f g = f
 
-  test_placed : (x : Bool) (a : Judged) → (x ≡ false → BadPlaced a) → BadPlaced (pick x Fine a)
+  test_placed : (x : Bool) (a : Judged) → (x ≡ false → BadPlaced a) → BadPlaced (pick x faultless a)
   test_placed true a f = fine_placed
   test_placed false a f = f refl
 
   presence_placed : (p : ℕ) → p ≤ longest_chart → BadPlaced (presence s p)
   presence_placed p h = go (leb (length s) p) refl
     where
-      go : (x : Bool) → leb (length s) p ≡ x → BadPlaced (pick x (Bad (chart_refusal 1 (length s) 0)) Fine)
+      go : (x : Bool) → leb (length s) p ≡ x → BadPlaced (pick x (Err (chart_refusal 1 (length s) 0)) faultless)
       go true e =
           bad_placed _ (record {
             of_chart = refl;
@@ -139,7 +138,7 @@ module _ (s : List ℕ) where
       })))))
 
   -- the triples before number i are fine, and so is that one
-  one_more : (i : ℕ) → FineBefore s i → judge_triple s (states_in s) (actions_in s) (triple_at s i) i ≡ Fine → FineBefore s (i + 1)
+  one_more : (i : ℕ) → FineBefore s i → judge_triple s (states_in s) (actions_in s) (triple_at s i) i ≡ faultless → FineBefore s (i + 1)
   one_more i before e = record {
     states_some = before.states_some;
     states_few = before.states_few;
@@ -150,7 +149,7 @@ module _ (s : List ℕ) where
     rising = rising;
   }
     where
-      fine : (triple_at s i + 2 < length s) × StepIn (states_in s) (actions_in s) (triple_in s i) × (triple_order s (triple_at s i) i ≡ Fine)
+      fine : (triple_at s i + 2 < length s) × StepIn (states_in s) (actions_in s) (triple_in s i) × (triple_order s (triple_at s i) i ≡ faultless)
       fine = triple_fine s (states_in s) (actions_in s) (triple_at s i) i e
 
       in_range : (j : ℕ) → j < i + 1 → StepIn (states_in s) (actions_in s) (triple_in s j)
@@ -172,13 +171,13 @@ module _ (s : List ℕ) where
       then_placed (judge_byte s (p + 2) (states_in s) i 2) (triple_order s p i) (byte_placed (p + 2) (states_in s) i 2 (omega arith) refl (omega arith) h some (action_fine e f) before) (λ g.
       order_placed (byte_fine s p (states_in s) i 0 e) (byte_fine s (p + 1) (actions_in s) i 1 f) (byte_fine s (p + 2) (states_in s) i 2 g))))
     where
-      source_fine : judge_byte s p (states_in s) i 0 ≡ Fine → (k : ℕ) → k < 1 → get_or s (triple_at s i + k) 0 < bound_of s k
+      source_fine : judge_byte s p (states_in s) i 0 ≡ faultless → (k : ℕ) → k < 1 → get_or s (triple_at s i + k) 0 < bound_of s k
       source_fine e k l =
           let z : k ≡ 0 = omega arith in
           let q : triple_at s i + 0 ≡ p = omega arith in
           rw (z, q) (byte_fine s p (states_in s) i 0 e).1
 
-      action_fine : judge_byte s p (states_in s) i 0 ≡ Fine → judge_byte s (p + 1) (actions_in s) i 1 ≡ Fine → (k : ℕ) → k < 2 → get_or s (triple_at s i + k) 0 < bound_of s k
+      action_fine : judge_byte s p (states_in s) i 0 ≡ faultless → judge_byte s (p + 1) (actions_in s) i 1 ≡ faultless → (k : ℕ) → k < 2 → get_or s (triple_at s i + k) 0 < bound_of s k
       action_fine e f k l = elim (dec_lt k 1) [
         | yes first ↦ source_fine e k first
         | no other ↦
@@ -218,18 +217,18 @@ module _ (s : List ℕ) where
 
   -- ---- section by section
 
-  chart_placed : (sh : Shape) → RefusedPlaced (Read.Chart sh)
+  chart_placed : (sh : Shape) → RefusedPlaced (Ok sh)
   chart_placed sh = record { where_refused = λ r e. (let z : ◌≡◌ {A = ℕ} 0 1 = cc in absurd (omega arith)) }
 
-  refused_placed : (r : Refusal) → Placed s r → RefusedPlaced (Read.Refused r)
+  refused_placed : (r : Refusal) → Placed s r → RefusedPlaced (Err r)
   refused_placed r f = record { where_refused = λ q e. (let z : r ≡ q = cc in rw z at f) }
 
-  where_placed : (a : Judged) (k : ChartRead) → BadPlaced a → (a ≡ Fine → RefusedPlaced k) → RefusedPlaced (where_fine a k)
-  where_placed Fine k f g = g refl
-  where_placed (Bad r) k f g = refused_placed r (f.where_bad r refl)
+  where_placed : (a : Judged) (k : Result Shape Refusal) → BadPlaced a → (a ≡ faultless → RefusedPlaced k) → RefusedPlaced (and_then a k)
+  where_placed (Ok tt) k f g = g refl
+  where_placed (Err r) k f g = refused_placed r (f.where_bad r refl)
 
-  past_placed : (x : Bool) (r : Refusal) (k : ChartRead) → (x ≡ true → Placed s r) → (x ≡ false → RefusedPlaced k)
-      → RefusedPlaced (pick x (Read.Refused r) k)
+  past_placed : (x : Bool) (r : Refusal) (k : Result Shape Refusal) → (x ≡ true → Placed s r) → (x ≡ false → RefusedPlaced k)
+      → RefusedPlaced (pick x (Err r) k)
   past_placed true r k f g = refused_placed r (f refl)
   past_placed false r k f g = g refl
 
@@ -260,7 +259,7 @@ module _ (s : List ℕ) where
           rw (next, at)
 
       few : (t : ℕ) → t ≡ transitions_in s → t ≤ 1024
-          → RefusedPlaced (where_fine (judge_triples s (states_in s) (actions_in s) (p + 2) 0 t) (pick (ltb (p + 2 + 3 * t) (length s)) (Read.Refused (chart_refusal 8 (p + 2 + 3 * t) 0)) (Read.Chart (record { n = states_in s; m = actions_in s; t = t }))))
+          → RefusedPlaced (and_then (judge_triples s (states_in s) (actions_in s) (p + 2) 0 t) (pick (ltb (p + 2 + 3 * t) (length s)) (Err (chart_refusal 8 (p + 2 + 3 * t) 0)) (Ok (record { n = states_in s; m = actions_in s; t = t }))))
       few t all l =
           where_placed (judge_triples s (states_in s) (actions_in s) (p + 2) 0 t) _ (triples_placed (p + 2) 0 t (omega arith) (omega arith) (omega arith) (none (omega arith))) (λ _.
           past_placed (ltb (p + 2 + 3 * t) (length s)) _ _
@@ -290,15 +289,15 @@ module _ (s : List ℕ) where
       count : 0 < length s → (states_in s ≡ 0) ⊎ (64 < states_in s) → Placed s (chart_refusal 2 0 0)
       count here f = placed 2 0 0 (omega arith) (omega arith) (omega arith) here (states refl refl refl f)
 
-pub refused : (s : List ℕ) (r : Refusal) → read_chart s ≡ Read.Refused r → Placed s r
+pub refused : (s : List ℕ) (r : Refusal) → read_chart s ≡ Err r → Placed s r
 refused s r e = (chart_refused s).where_refused r e
 
 -- ---- the triple is told
 
 -- 6 tells the triple and its byte: that at 4 + n + m + 3 * place + byte is the first out of range
-pub tells_the_byte : (s : List ℕ) (r : Refusal) → read_chart s ≡ Read.Refused r → r.number ≡ 6 → OutOfRange s r.place r.byte
+pub tells_the_byte : (s : List ℕ) (r : Refusal) → read_chart s ≡ Err r → r.number ≡ 6 → OutOfRange s r.place r.byte
 tells_the_byte s r e = (told s r.number r.place r.byte (refused s r e).at_fault).2
 
 -- 7 tells the triple: number `place` is the first not greater than the one before
-pub tells_the_triple : (s : List ℕ) (r : Refusal) → read_chart s ≡ Read.Refused r → r.number ≡ 7 → NotGreater s r.place
+pub tells_the_triple : (s : List ℕ) (r : Refusal) → read_chart s ≡ Err r → r.number ≡ 7 → NotGreater s r.place
 tells_the_triple s r e = (told s r.number r.place r.byte (refused s r e).at_fault).3

@@ -1,6 +1,7 @@
 -- Judging one line further: the lines before it are good, and the words hold their pairs.
 use Prim.Native.Nat.{ℕ, ◌+◌, ◌*◌, ◌≤◌, ◌<◌}
 use mathlib.Core.Path.{◌≡◌, ap}
+use mathlib.Core.Bool.{Bool, true, false}
 use mathlib.Core.List.{List, ◌∷◌}
 use native.Mathlib.Omega.{arith}
 use native.Mathlib.Numerals.{add-one}
@@ -11,8 +12,9 @@ use Rattle.ranges.specs.Sources.{Sorted, steps_by}
 use Rattle.ranges.proofs.Ranges.{targets_below}
 use Rattle.reason.specs.Line.{Line, line_at, lines_in}
 use Rattle.reason.specs.Good.{Good}
-use Rattle.check_reasons.specs.Judging.{Words, Passes}
-use Rattle.check_reasons.specs.Promise.{Accepts, FirstBad}
+use Rattle.check_reasons.specs.Judging.{Whether, Words, Passes}
+use Rattle.check_reasons.proofs.Leads.{whether_so, whether_not}
+use Rattle.check_reasons.specs.Promise.{FirstBad}
 use Rattle.check_reasons.proofs.Rows.{words_none, words_more, passes_good, good_passes}
 
 -- the first i lines are good, and the words hold their pairs
@@ -36,25 +38,21 @@ module _ (bytes : List ℕ) (at n : ℕ) (first : List ℕ) (w : Sorted bytes at
   abbrev line : Line
   line = line_at list (5 * i)
 
-  pub line_bad : 5 * i < length list → (Passes n steps rows line → ⊥) → FirstBad n steps list i
-  line_bad h f =
+  pub line_bad : (l : Line) → l ≡ line → (b : Bool) → Whether (Passes n steps rows l) b → b ≡ false → 5 * i < length list → FirstBad n steps list i
+  line_bad l e b f z h =
       record {
         begun = h;
         earlier_good = s.good;
-        bad = λ l g. f (good_passes n steps w.triples.few (targets_below bytes at _ n w.triples) (lines_in list i) rows s.words.holds line g);
+        bad = λ k g. whether_not b z f (rw e (good_passes n steps w.triples.few (targets_below bytes at _ n w.triples) (lines_in list i) rows s.words.holds line g));
       }
 
-  pub line_incomplete : 5 * i < length list → length list < 5 * i + 5 → FirstBad n steps list i
-  line_incomplete h k = record { begun = h; earlier_good = s.good; bad = λ l g. absurd (omega arith) }
-
-  pub all_good : length list ≤ 5 * i → Accepts n steps list i
-  all_good h = record { whole = omega (arith, s.within); good = s.good }
-
-  pub line_good : 5 * i + 5 ≤ length list → Passes n steps rows line → (r : ℕ) → With (get_or rows line.p 0) line.q r → GoodSo n steps list (set rows line.p r) (i + 1)
+  pub line_good : (l : Line) → l ≡ line → (b : Bool) → Whether (Passes n steps rows l) b → b ≡ true → 5 * i + 5 ≤ length list → (r : ℕ) → With (get_or rows l.p 0) l.q r → GoodSo n steps list (set rows l.p r) (i + 1)
   unfolding Good
-  line_good h f r m =
-      record {
+  line_good l e b f z h r m =
+      let g : Passes n steps rows line = rw e at (whether_so b z f) in
+      let k : With (get_or rows line.p 0) line.q r = rw e at m in
+      rw e (record {
         within = omega arith;
-        words = rw (lines_suc list i) (words_more (lines_in list i) rows line r s.words (omega (arith, f.p_in, w.triples.few)) (omega (arith, f.q_in, w.triples.few)) m);
-        good = rw (lines_suc list i) (s.good, passes_good n steps w.triples.few (targets_below bytes at _ n w.triples) (lines_in list i) rows s.words.holds line f);
-      }
+        words = rw (lines_suc list i) (words_more (lines_in list i) rows line r s.words (omega (arith, g.p_in, w.triples.few)) (omega (arith, g.q_in, w.triples.few)) k);
+        good = rw (lines_suc list i) (s.good, passes_good n steps w.triples.few (targets_below bytes at _ n w.triples) (lines_in list i) rows s.words.holds line g);
+      })

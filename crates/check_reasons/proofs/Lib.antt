@@ -1,4 +1,5 @@
 pub mod Leads
 pub mod Rows
+pub mod Sides
 pub mod Judged
 pub mod Promise

@@ -22,7 +22,6 @@ use Rattle.chart.specs.Chart.{Step}
 use Rattle.sheet.proofs.Meaning.{TargetsBelow}
 use Rattle.reason.specs.Line.{Line, pair_of, IsMove, relies}
 use Rattle.reason.specs.Good.{Listed, GoodLine}
-use Rattle.reason.proofs.Relies.{no_other_side}
 use Rattle.reason.proofs.Spelled.{listed_cases}
 use Rattle.reason.proofs.Own.{relies_in}
 use Rattle.check_reasons.specs.Judging.{in_words, Holds, Words, Whether, Rests, Passes}
@@ -128,6 +127,3 @@ module _ (n : ℕ) (steps : List Step) (rows : List ℕ) (l : Line) where
       (λ r. record { p_in = p_in; q_in = q_in; new = new; rests = r })
       (λ g. g.rests)
       (subst⁻¹ (λ (s : ℕ). Whether (Rests steps rows (record { p = l.p; q = l.q; side = s; action = l.action; target = l.target })) b) e w)
-
-  pub other_side : (l.side ≡ 0 → ⊥) → (l.side ≡ 1 → ⊥) → Passes n steps rows l → ⊥
-  other_side f g w = ⊎_elim f g (no_other_side steps l w.rests.0)

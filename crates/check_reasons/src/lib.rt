@@ -1,191 +1,108 @@
 // Judging a list that somebody hands in: it is accepted exactly if it is good.
 #![tactic(auto)]
 
-ghost use Rattle.std.specs.Prelude.{ℕ, ◌+◌, ◌*◌, ◌≤◌, ◌<◌, length, get_or};
-ghost use Rattle.words.specs.Words.{member};
-ghost use Rattle.chart.specs.Reading.{steps_at};
-ghost use Rattle.ranges.specs.Sources.{Stands, Sorted, target_at, steps_by};
-ghost use Rattle.reason.specs.Line.{Line, line_at};
-ghost use Rattle.check_reasons.specs.Judging.{Whether, SomeLeads, EachLeads, Rests, Passes};
+ghost use Rattle.std.specs.Prelude.{◌≡◌, ℕ, Bool, ◌+◌, ◌≤◌, ◌<◌, length};
+ghost use Rattle.ranges.specs.Triples.{steps_of};
+ghost use Rattle.reason.specs.Line.{line_at};
+ghost use Rattle.check_reasons.specs.Judging.{Whether, Passes, in_words};
+ghost use Rattle.check_reasons.specs.Lines.{line_of, Moves, RestsSo};
 ghost use Rattle.check_reasons.specs.Promise.{Judges, CheckPromise};
 
-use chart::ChartRead;
+use chart::AcceptedChart;
+use ranges::Triples;
 use refusal::Refusal;
 
-// The number of lines, or the refusal.
-#[derive(Drop)]
-pub enum CheckAnswer {
-    Accepted(usize),
-    Refused(Refusal),
-}
-
-// Whether one of the triples low .. high bears the action and leads to the target.
-fn some_leads(chart: &[u8], at: usize, low: usize, high: usize, action: u8, target: u8) -> bool
-    requires { at + 3 * high ≤ length chart.now }
-    ensures { Whether (SomeLeads chart.now at low high action target) result }
-{
-    let mut i = low;
-    while i < high {
-        let step = at + 3 * i;
-        if chart[step + 1] == action && chart[step + 2] == target {
-            return true;
-        }
-        i = i + 1;
-    }
-    false
-}
-
-// Whether each of the triples low .. high that bears the action leads to a u such that (target, u) is listed: the word is the target's.
-fn all_after(chart: &[u8], at: usize, low: usize, high: usize, action: u8, row: u64) -> bool
-    requires { at + 3 * high ≤ length chart.now }
-    ensures { Whether (EachLeads chart.now at low high action (λ u. member row u)) result }
-{
-    let mut i = low;
-    while i < high {
-        let step = at + 3 * i;
-        if chart[step + 1] == action && !words::has(row, chart[step + 2]) {
-            return false;
-        }
-        i = i + 1;
-    }
-    true
-}
-
-// Whether each of the triples low .. high that bears the action leads to a u such that (u, target) is listed.
-fn all_before(
-    chart: &[u8],
-    at: usize,
-    low: usize,
-    high: usize,
+// The five bytes of a line.
+#[derive(Clone, Copy)]
+struct Line {
+    p: u8,
+    q: u8,
+    side: u8,
     action: u8,
     target: u8,
-    rows: &[u64; 64],
-) -> bool
-    requires high_in_bounds { at + 3 * high ≤ length chart.now }
-    requires by_index { (i : ℕ) → i < high → target_at chart.now at i < 64 }
-    ensures { Whether (EachLeads chart.now at low high action (λ u. member (get_or rows.now u 0) target)) result }
-{
-    let mut i = low;
-    while i < high {
-        let step = at + 3 * i;
-        if chart[step + 1] == action && !words::has(rows[chart[step + 2] as usize], target) {
-            return false;
-        }
-        i = i + 1;
-    }
-    true
 }
 
-// Whether p steps so, and the target with each answering state of q is listed.
-fn rests_forth(
-    chart: &[u8],
-    at: usize,
-    first: &[usize; 65],
-    n: usize,
-    rows: &[u64; 64],
-    p: usize,
-    q: usize,
-    action: u8,
-    target: u8,
-) -> bool
-    requires sorted { Sorted chart.now at n first.now }
-    requires p_lt_n { (p < n) × (q < n) }
-    ensures { Whether (Rests (steps_by chart.now at n first.now) rows.now (record { p = p; q = q; side = 0; action = action; target = target })) result }
+// The line at a place of the list.
+fn line_at(list: &[u8], place: usize) -> Line
+    requires { place + 5 ≤ length list.now }
+    ensures { line_of result ≡ line_at list.now place }
 {
-    if !some_leads(chart, at, first[p], first[p + 1], action, target) {
-        return false;
+    Line {
+        p: list[place],
+        q: list[place + 1],
+        side: list[place + 2],
+        action: list[place + 3],
+        target: list[place + 4],
     }
-    // a target that a step leads to is a state, so it has its word
-    let row = rows[target as usize];
-    all_after(chart, at, first[q], first[q + 1], action, row)
 }
 
-// Whether q steps so, and each answering state of p with the target is listed.
-fn rests_back(
-    chart: &[u8],
-    at: usize,
-    first: &[usize; 65],
-    n: usize,
-    rows: &[u64; 64],
-    p: usize,
-    q: usize,
-    action: u8,
-    target: u8,
-) -> bool
-    requires sorted { Sorted chart.now at n first.now }
-    requires p_lt_n { (p < n) × (q < n) }
-    ensures { Whether (Rests (steps_by chart.now at n first.now) rows.now (record { p = p; q = q; side = 1; action = action; target = target })) result }
+// Whether (x, y) is listed already: it is in the words.
+fn listed(rows: &[u64; 64], x: u8, y: u8) -> bool
+    requires { x < 64 }
+    ensures { result ≡ in_words rows.now (x, y) }
 {
-    if !some_leads(chart, at, first[q], first[q + 1], action, target) {
-        return false;
-    }
-    all_before(chart, at, first[p], first[p + 1], action, target, rows)
+    words::has(rows[usize::from(x)], y)
 }
 
-// Whether the line at a place of the list is good after those whose pairs are in the words.
-fn passes(
-    chart: &[u8],
-    at: usize,
-    first: &[usize; 65],
-    n: usize,
-    rows: &[u64; 64],
-    list: &[u8],
-    place: usize,
-) -> bool
-    requires sorted { Sorted chart.now at n first.now }
-    requires place_in_bounds { place + 5 ≤ length list.now }
-    ensures { Whether (Passes n (steps_by chart.now at n first.now) rows.now (line_at list.now place)) result }
+// Whether some step of s bears the action and leads to the target.
+fn some_leads(triples: &Triples, s: usize, action: u8, target: u8) -> bool
+    requires { s < triples.now.shape.n }
+    ensures { Whether (Moves triples.now s action target) result }
 {
-    let p = list[place] as usize;
-    let q = list[place + 1] as usize;
-    if p >= n || q >= n {
+    !triples.each_leads(s, action, |u| u != target)
+}
+
+// Whether s moves as the line says, and each step of o by its action leads to a state that is listed with its target.
+fn rests<F: Fn(u8) -> bool>(triples: &Triples, s: usize, o: usize, line: Line, is_listed: F) -> bool
+    requires states { (s < triples.now.shape.n) × (o < triples.now.shape.n) }
+    requires asked { line.target < triples.now.shape.n → (u : ℕ) → u < triples.now.shape.n → F.pre is_listed u }
+    ensures { (ok : ℕ → Bool) → ((u : ℕ) (b : Bool) → F.post is_listed u b → b ≡ ok u) → Whether (RestsSo triples.now s o line.action line.target ok) result }
+{
+    some_leads(triples, s, line.action, line.target)
+        && triples.each_leads(o, line.action, is_listed)
+}
+
+// Whether the line is good after those whose pairs are in the words.
+fn passes(triples: &Triples, rows: &[u64; 64], line: Line) -> bool
+    ensures { Whether (Passes triples.now.shape.n (steps_of triples.now) rows.now (line_of line)) result }
+{
+    let n = triples.shape.n;
+    let p = usize::from(line.p);
+    let q = usize::from(line.q);
+    if p >= n || q >= n || listed(rows, line.p, line.q) {
         return false;
     }
-    let listed = rows[p];
-    if words::has(listed, list[place + 1]) {
-        return false;
+    match line.side {
+        0 => rests(triples, p, q, line, |u| listed(rows, line.target, u)),
+        1 => rests(triples, q, p, line, |u| listed(rows, u, line.target)),
+        _ => false,
     }
-    let side = list[place + 2];
-    let action = list[place + 3];
-    let target = list[place + 4];
-    if side == 0 {
-        return rests_forth(chart, at, first, n, rows, p, q, action, target);
-    }
-    if side == 1 {
-        return rests_back(chart, at, first, n, rows, p, q, action, target);
-    }
-    false
 }
 
 // Line by line; the words hold the pairs of the lines before.
-fn judge(chart: &[u8], at: usize, t: usize, n: usize, list: &[u8]) -> CheckAnswer
-    requires { Stands chart.now at t n }
-    ensures { Judges n (steps_at chart.now at t) list.now result }
+fn judge(triples: &Triples, list: &[u8]) -> Result<usize, Refusal>
+    ensures { Judges triples.now.shape.n (steps_of triples.now) list.now result }
 {
-    let first = ranges::sources(chart, at, t, n);
+    let lines = list.len() / 5;
     let mut rows = [0u64; 64];
-    let mut i: usize = 0;
-    while i < list.len() / 5 {
-        let place = 5 * i;
-        if !passes(chart, at, &first, n, &rows, list, place) {
-            return CheckAnswer::Refused(refusal::of_sheet(21, i));
+    for i in 0..lines {
+        let line = line_at(list, 5 * i);
+        if !passes(triples, &rows, line) {
+            return Err(Refusal::of_sheet(21, i));
         }
-        let p = list[place] as usize;
-        rows[p] = words::with(rows[p], list[place + 1]);
-        i = i + 1;
+        let p = usize::from(line.p);
+        rows[p] = words::with(rows[p], line.q);
     }
-    if 5 * i < list.len() {
-        return CheckAnswer::Refused(refusal::of_sheet(21, i));
+    if 5 * lines < list.len() {
+        return Err(Refusal::of_sheet(21, lines));
     }
-    CheckAnswer::Accepted(i)
+    Ok(lines)
 }
 
 // The number of lines of a good list; 21 with the number of the first bad or incomplete line, which is told as input 1.
-pub fn check_reasons(chart: &[u8], list: &[u8]) -> CheckAnswer
+pub fn check_reasons(chart: &[u8], list: &[u8]) -> Result<usize, Refusal>
     ensures { CheckPromise chart.now list.now result }
 {
-    match chart::read_chart(chart) {
-        ChartRead::Refused(r) => CheckAnswer::Refused(r),
-        ChartRead::Chart(shape) => judge(chart, 4 + shape.n + shape.m, shape.t, shape.n, list),
-    }
+    let chart = AcceptedChart::read(chart)?;
+    judge(&Triples::of(&chart), list)
 }

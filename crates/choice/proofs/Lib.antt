@@ -1,4 +1,5 @@
-pub mod Rising
+pub mod Smaller
 pub mod Putting
 pub mod Choosing
 pub mod Determined
+pub mod Chosen

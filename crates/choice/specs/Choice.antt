@@ -1,8 +1,6 @@
 -- The chosen line of one pair at a place of a list, by the marks that a matrix holds.
 use Rattle.std.specs.Prelude.{ℕ, ◌+◌, ◌*◌, ◌≤◌, ◌<◌, ◌≡◌, List, length, get_or}
 use Rattle.chart.specs.Chart.{Step}
-use Rattle.chart.specs.Layout.{Earlier}
-use Rattle.chart.specs.Reading.{step_at}
 use Rattle.relation.specs.Promise.{byte_at}
 use Rattle.reason.specs.Line.{pair_of, line_at}
 use Rattle.reason.specs.Own.{Chosen}
@@ -11,9 +9,9 @@ use Rattle.reason.specs.Own.{Chosen}
 abbrev pub mark_in : ℕ → List ℕ → ℕ × ℕ → ℕ
 mark_in n matrix x = byte_at n matrix x.0 x.1
 
--- the triples from `at` on rise: by source, then action, then target
-abbrev pub TriplesRise : List ℕ → ℕ → ℕ → Type 0
-TriplesRise bytes at t = (i j : ℕ) → i < j → j < t → Earlier (step_at bytes (at + 3 * i)) (step_at bytes (at + 3 * j))
+-- every mark is below the number of states
+abbrev pub MarksBelow : ℕ → List ℕ → Type 0
+MarksBelow n matrix = (y : ℕ) → y < n * n → get_or matrix y 0 < n
 
 -- the line at the place is the chosen one of the pair (p, q); all other bytes stay, and the length
 pub record LinePut (n : ℕ) (steps : List Step) (mark : ℕ × ℕ → ℕ) (p q : ℕ) (old : List ℕ) (place : ℕ) (new : List ℕ) : Type 0 where

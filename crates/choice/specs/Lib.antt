@@ -1,2 +1,3 @@
 pub mod Choice
 pub mod Search
+pub mod Marked

@@ -24,7 +24,7 @@ use Rattle.nearness.specs.Mark.{bears_mark}
 use Rattle.nearness.proofs.Matched.{bisimulation_monotone}
 use Rattle.nearness.proofs.Formulas.{near_down}
 use Rattle.nearness.proofs.Rounds.{near_rounds, mark_test}
-use Rattle.relation.specs.Rows.{Within, Holds, Keeps}
+use Rattle.relation.specs.Rows.{Holds, Keeps}
 use Rattle.relation.specs.Cells.{pair_at}
 use Rattle.relation.specs.Settles.{Settles}
 use Rattle.relation.proofs.Cells.{row_in, column_in}
@@ -129,9 +129,6 @@ module _ (steps : List Step) (n m : ℕ) (few : n ≤ 64) (in_chart : (t : Step)
     module _ {next : List ℕ} (keeps : Keeps n (λ p q. each (member made) (λ x. undivided into n m (get_or near x 0) p q) (below 64)) near next) where
       holds_next : Holds n (Near steps (suc k)) next
       holds_next = round_holds n m few steps in_chart into T k near w.holds made w.pending keeps
-
-      pub holds_within : Within n next
-      holds_within = holds_next.within
 
       marks_next : {last : List ℕ} → PutMarks n near next (k + 1) new last → Marks steps n old last (suc k)
       marks_next put = marks_round steps k w.holds holds_next (rw (add-one k) at put) w.marks

@@ -2,39 +2,43 @@
 use Prim.Native.Nat.{ℕ, ◌+◌, ◌-◌, ◌*◌, ◌/◌, ◌%◌, ◌^◌, ◌≤◌, ◌<◌}
 use mathlib.Core.Path.{◌≡◌, refl, sym, ap, ap₂, ◌∙◌}
 use mathlib.Core.Bool.{Bool, true, false, So}
-use mathlib.Core.List.{List}
+use mathlib.Core.List.{List, ◌++◌}
 use mathlib.Core.Logic.{inl, inr}
 use native.Mathlib.Omega.{arith}
 use native.Mathlib.Decide.{dec_le, ℕ_discrete}
 use borrow.Author.Tests.{eq-eqb, ne_eqb, le-leb, lt-leb}
 use native.Mathlib.Nat.{le-div_iff_mul-le}
 use lib.Arith.{digits_div}
-use lib.Bits.{bit_and, and_le_l}
+use lib.Bits.{and_le_l}
 use lib.Count.{count_trailing_zeros}
 use lib.Dec.{eqb, leb}
-use lib.ListN.{length, get_or, set, length-set}
+use lib.ListN.{length, get_or, set, take, drop, replicate}
+use Rattle.std.proofs.lemmas.List.{length-append, length-drop, length-take-le, length-replicate, get_or_append_left, get_or-replicate, get_or-append_right, get_or-drop}
 use lib.Seq.{get_or-set_same, get_or-set_other}
 use Rattle.settle.specs.Test.{pick, both, either, neg}
 use Rattle.settle.proofs.Test.{never, tested}
 use Rattle.words.specs.Words.{member}
 use Rattle.words.proofs.Words.{no_member, others_member, none_member}
-use Rattle.steps.proofs.Bits.{and_member, lowest_or_rest, lowest_in}
+use Rattle.words.specs.Members.{Lowest}
+use Rattle.words.proofs.Bits.{and_member}
+use Rattle.words.proofs.Lowest.{lowest_or_rest, lowest_out}
 use Rattle.relation.specs.Rows.{in_rows, Within}
 use Rattle.relation.proofs.Cells.{column_in, pair_cell, cell_in}
 use Rattle.classes.specs.Marking.{Cleared, fallen, PutMark, is_new, shares_row, PutMarks}
 
--- ---- a matrix that is cleared
+-- ---- the first cells are made 0
 
-pub cleared_none : (old : List ℕ) → Cleared 0 old old
-cleared_none old = record { same_length = refl; zeros = λ y h. absurd (omega arith); after = λ y h. refl }
-
-pub cleared_more : {cells : ℕ} {old new : List ℕ} → Cleared cells old new → cells < length new → Cleared (cells + 1) old (set new cells 0)
-cleared_more {cells} {old} {new} s room =
-    record {
-      same_length = length-set new cells 0 ∙ s.same_length;
-      zeros = λ y h. elim (ℕ_discrete y cells) [ yes e ↦ rw e (get_or-set_same new cells 0 0 room) | no f ↦ get_or-set_other new cells y 0 0 f ∙ s.zeros y (omega arith) ];
-      after = λ y h. get_or-set_other new cells y 0 0 (λ i. omega arith) ∙ s.after y (omega arith);
-    }
+pub cleared : (cells : ℕ) (old : List ℕ) {zeros : List ℕ} → cells ≤ length old → zeros ≡ replicate (length (take cells old)) 0 → Cleared cells old (zeros ++ drop cells old)
+cleared cells old h e =
+    let size : length (take cells old) ≡ cells = length-take-le cells old h in
+    rw (e, size) (record {
+      same_length = length-append first (drop cells old) ∙ rw (length-replicate {A = ℕ} cells 0) (omega (arith, length-drop cells old));
+      zeros = λ y l. get_or_append_left first (drop cells old) 0 y (omega (arith, length-replicate {A = ℕ} cells 0)) ∙ get_or-replicate cells y 0 0 l;
+      after = λ y l. get_or-append_right first (drop cells old) cells y 0 (length-replicate cells 0) l ∙ get_or-drop cells old (y - cells) 0 ∙ ap (λ (x : ℕ). get_or old x 0) (omega arith);
+    })
+  where
+    first : List ℕ
+    first = replicate cells 0
 
 -- ---- those that fell from one row
 
@@ -42,46 +46,38 @@ cleared_more {cells} {old} {new} s room =
 abbrev pub marked : ℕ → ℕ → ℕ → List ℕ → ℕ → ℕ
 marked start fell mark cells y = pick (both (leb start y) (member fell (y - start))) mark (get_or cells y 0)
 
-pub marked_none : (start mark : ℕ) (cells : List ℕ) (y : ℕ) → marked start 0 mark cells y ≡ get_or cells y 0
+pub marked_done : (start mark : ℕ) (cells : List ℕ) {left : ℕ} → left ≡ 0 → (y : ℕ) → get_or cells y 0 ≡ marked start left mark cells y
 unfolding both
-marked_none start mark cells y = rw (none_member (y - start)) (go (leb start y))
+marked_done start mark cells e y = rw (e, none_member (y - start)) (go (leb start y))
   where
-    go : (b : Bool) → pick (both b false) mark (get_or cells y 0) ≡ get_or cells y 0
+    go : (b : Bool) → get_or cells y 0 ≡ pick (both b false) mark (get_or cells y 0)
     go true = refl
     go false = refl
 
 -- with the lowest one's cell marked and it dropped, what is marked or still to come is the same
-pub marked_walked : (cells : List ℕ) (start w mark y : ℕ) → 0 < w → w < 2 ^ 64 → start + count_trailing_zeros 64 w < length cells
-    → marked start (bit_and w (w - 1)) mark (set cells (start + count_trailing_zeros 64 w) mark) y ≡ marked start w mark cells y
+pub marked_walked : {w q rest : ℕ} (cells : List ℕ) (start mark y : ℕ) → Lowest w q rest → start + q < length cells
+    → marked start rest mark (set cells (start + q) mark) y ≡ marked start w mark cells y
 unfolding both either
-marked_walked cells start w mark y some few room = elim (ℕ_discrete y (start + low)) [
-  | yes e ↦ rw e (ap (λ (x : ℕ). pick (both (leb start (start + low)) (member rest (start + low - start))) mark x) (get_or-set_same cells (start + low) mark 0 room)
-      ∙ same (both (leb start (start + low)) (member rest (start + low - start)))
-      ∙ sym (ap (λ (b : Bool). pick b mark (get_or cells (start + low) 0)) (ap₂ both (le-leb start (start + low) (omega arith)) (ap (member w) back ∙ lowest_in 64 w some few))))
-  | no f ↦ ap₂ (λ (b : Bool) (x : ℕ). pick b mark x) (other f) (get_or-set_other cells (start + low) y mark 0 f)
+marked_walked {w} {q} {rest} cells start mark y h room = elim (ℕ_discrete y (start + q)) [
+  | yes e ↦ rw (e, get_or-set_same cells (start + q) mark 0 room, le-leb start (start + q) (omega arith), back, h.in_set) (same (member rest q))
+  | no f ↦ ap₂ (λ (b : Bool) (x : ℕ). pick b mark x) (other f) (get_or-set_other cells (start + q) y mark 0 f)
 ]
   where
-    low : ℕ
-    low = count_trailing_zeros 64 w
-
-    rest : ℕ
-    rest = bit_and w (w - 1)
-
-    back : start + low - start ≡ low
+    back : start + q - start ≡ q
     back = omega arith
 
     same : (b : Bool) → pick b mark mark ≡ mark
     same true = refl
     same false = refl
 
-    other : (y ≡ start + low → ⊥) → both (leb start y) (member rest (y - start)) ≡ both (leb start y) (member w (y - start))
+    other : (y ≡ start + q → ⊥) → both (leb start y) (member rest (y - start)) ≡ both (leb start y) (member w (y - start))
     other f = elim (dec_le start y) [
-      | yes l ↦ ap (both (leb start y)) (sym (lowest_or_rest 64 w some few (y - start) ∙ ap (λ (b : Bool). either b (member rest (y - start))) (ne_eqb low (y - start) (λ e. f (omega arith)))))
+      | yes l ↦ rw (lowest_or_rest h (y - start), ne_eqb q (y - start) (λ e. f (omega arith)))
       | no g ↦ rw (lt-leb start y (omega arith))
     ]
 
 pub put_none : {start fell : ℕ} (mark : ℕ) (cells : List ℕ) → fell ≡ 0 → PutMark start fell mark cells cells
-put_none {start} mark cells e = record { same_length = refl; cells = λ y. rw e (sym (marked_none start mark cells y)) }
+put_none {start} mark cells e = record { same_length = refl; cells = λ y. marked_done start mark cells e y }
 
 -- the cells of those that fell are in the buffer
 pub row_fits : (n p fell size : ℕ) → p < n → n * n ≤ size → fell < 2 ^ n → (q : ℕ) → So (member fell q) → p * n + q < size
@@ -185,41 +181,36 @@ module _ (n : ℕ) (near next : List ℕ) (mark : ℕ) where
         | inr f ↦ rw (← fell_in (y / n) (y % n) (column_in n y h) (w.no_bit_above (y / n)), none (y / n) f, none_member (y % n)) (nothing (member shared (y / n)))
       ]
 
-  pub marking_walked : {left : ℕ} {old mid new : List ℕ} → 0 < n → Within n near → Within n next → 0 < left → left < 2 ^ 64 → count_trailing_zeros 64 left < n → Marking left old mid
-      → PutMark (count_trailing_zeros 64 left * n) (fallen n (get_or near (count_trailing_zeros 64 left) 0) (get_or next (count_trailing_zeros 64 left) 0)) mark mid new → Marking (bit_and left (left - 1)) old new
+  pub marking_walked : {w p rest : ℕ} {old mid new : List ℕ} → Within n near → Within n next → p < n → Lowest w p rest → Marking w old mid
+      → PutMark (p * n) (fallen n (get_or near p 0) (get_or next p 0)) mark mid new → Marking rest old new
   unfolding both either
-  marking_walked {left} {old} {mid} {new} states v w some few low-in k put =
+  marking_walked {w} {p} {rest} {old} {mid} {new} v u low-in h k put =
       record {
         same_length = put.same_length ∙ k.same_length;
-        cells = λ y h. elim (ℕ_discrete (y / n) low) [
-          | yes e ↦ ap (pick (both (member (bit_and left (left - 1)) (y / n)) (fell_at y)) mark) (put_own states less put y e ∙ ap (λ (b : Bool). pick b mark (get_or mid y 0)) (own y h e)) ∙ twice (member (bit_and left (left - 1)) (y / n)) (fell_at y) (get_or mid y 0) ∙ sym (ap (λ (b : Bool). pick (both b (fell_at y)) mark (get_or mid y 0)) (ap (member left) e ∙ lowest_in 64 left some few)) ∙ k.cells y h
-          | no f ↦ ap₂ (λ (b : Bool) (x : ℕ). pick (both b (fell_at y)) mark x) (sym (lowest_or_rest 64 left some few (y / n) ∙ ap (λ (b : Bool). either b (member (bit_and left (left - 1)) (y / n))) (ne_eqb low (y / n) (λ e. f (sym e))))) (put_other states less put y f) ∙ k.cells y h
+        cells = λ y l. elim (ℕ_discrete (y / n) p) [
+          | yes e ↦ rw (put_own states less put y e, own y l e, ap (member rest) e, lowest_out h) (sym (ap (λ (b : Bool). pick (both b (fell_at y)) mark (get_or mid y 0)) (ap (member w) e ∙ h.in_set)) ∙ k.cells y l)
+          | no f ↦ ap₂ (λ (b : Bool) (x : ℕ). pick (both b (fell_at y)) mark x) (sym (lowest_or_rest h (y / n) ∙ ap (λ (b : Bool). either b (member rest (y / n))) (ne_eqb p (y / n) (λ e. f (sym e))))) (put_other states less put y f) ∙ k.cells y l
         ];
-        after = λ y h. put_other states less put y (λ e. omega (arith, far y h)) ∙ k.after y h;
+        after = λ y l. put_other states less put y (λ e. omega (arith, far y l)) ∙ k.after y l;
       }
     where
-      low : ℕ
-      low = count_trailing_zeros 64 left
+      states : 0 < n
+      states = omega arith
 
-      less : fallen n (get_or near low 0) (get_or next low 0) < 2 ^ n
-      less = omega (arith, and_le_l (get_or near low 0) (2 ^ n - 1 - get_or next low 0), v.no_bit_above low)
+      less : fallen n (get_or near p 0) (get_or next p 0) < 2 ^ n
+      less = omega (arith, and_le_l (get_or near p 0) (2 ^ n - 1 - get_or next p 0), v.no_bit_above p)
 
-      own : (y : ℕ) → y < n * n → y / n ≡ low → member (fallen n (get_or near low 0) (get_or next low 0)) (y % n) ≡ fell_at y
-      own y h e = fell_in low (y % n) (column_in n y h) (w.no_bit_above low) ∙ rw e
+      own : (y : ℕ) → y < n * n → y / n ≡ p → member (fallen n (get_or near p 0) (get_or next p 0)) (y % n) ≡ fell_at y
+      own y l e = fell_in p (y % n) (column_in n y l) (u.no_bit_above p) ∙ rw e
 
       far : (y : ℕ) → n * n ≤ y → n ≤ y / n
-      far y h = (le-div_iff_mul-le states).1 h
+      far y l = (le-div_iff_mul-le states).1 l
 
-      twice : (r f : Bool) (x : ℕ) → pick (both r f) mark (pick f mark x) ≡ pick f mark x
-      twice true true x = refl
-      twice true false x = refl
-      twice false f x = refl
-
-  pub marking_done : {old new : List ℕ} → Marking 0 old new → PutMarks n near next mark old new
+  pub marking_done : {left : ℕ} {old new : List ℕ} → left ≡ 0 → Marking left old new → PutMarks n near next mark old new
   unfolding both
-  marking_done {old} {new} k =
+  marking_done {left} {old} {new} e k =
       record {
         same_length = k.same_length;
-        cells = λ y h. sym (ap (λ (b : Bool). pick (both b (fell_at y)) mark (get_or new y 0)) (none_member (y / n))) ∙ k.cells y h;
+        cells = λ y h. sym (ap (λ (b : Bool). pick (both b (fell_at y)) mark (get_or new y 0)) (ap (λ (x : ℕ). member x (y / n)) e ∙ none_member (y / n))) ∙ k.cells y h;
         after = k.after;
       }

@@ -26,7 +26,7 @@ use Rattle.steps.specs.Table.{Table, HasStep}
 use Rattle.steps.specs.Walk.{leads}
 use Rattle.steps.proofs.Leads.{leads_none}
 use Rattle.steps.proofs.Stepping.{has_step, lead_i, lead_e}
-use Rattle.steps.proofs.Bits.{and_member, one_member, lowest_in}
+use Rattle.words.proofs.Bits.{and_member, one_member, lowest_in}
 use Rattle.nearness.specs.Relation.{Near, turned, bisimulation_round}
 use Rattle.nearness.proofs.Matched.{matched_i, matched_e}
 use Rattle.nearness.proofs.Formulas.{near_refl, near_sym, near_trans, near_down}

@@ -1,25 +1,19 @@
 -- A split of the rows by one set of states, by each action into a class, and by each class.
-use Prim.Native.Nat.{ℕ, ◌+◌, ◌-◌, ◌*◌, ◌^◌, ◌≤◌, ◌<◌}
+use Prim.Native.Nat.{ℕ, ◌+◌, ◌-◌, ◌*◌, ◌^◌, ◌<◌}
 use mathlib.Core.Path.{◌≡◌, refl, sym, ap, ◌∙◌}
 use mathlib.Core.Bool.{Bool, true, false, So}
 use mathlib.Core.List.{List}
 use mathlib.Core.Logic.{inl, inr}
-use native.Mathlib.Omega.{arith}
-use native.Mathlib.Decide.{dec_le}
-use native.Mathlib.Nat.{mul-le-mul_right}
 use native.Mathlib.Numerals.{add-one}
 use lib.Bits.{bit_and}
-use lib.Count.{count_trailing_zeros}
-use lib.ListN.{length}
-use Rattle.settle.specs.Test.{both, either, implies, neg, same, all_of, each}
+use Rattle.settle.specs.Test.{both, implies, neg, same, all_of, each}
 use Rattle.settle.specs.Finite.{below}
-use Rattle.settle.proofs.Test.{never, both_e, same_i}
+use Rattle.settle.proofs.Test.{both_e, same_i}
 use Rattle.words.specs.Words.{member}
-use Rattle.words.proofs.Words.{no_member, others_member, word_small, word_of_lem, none_member}
-use Rattle.steps.specs.Table.{Sized}
+use Rattle.words.specs.Members.{Lowest}
+use Rattle.words.proofs.Words.{others_member, none_member}
 use Rattle.steps.specs.Walk.{leads}
-use Rattle.steps.proofs.Bits.{and_member}
-use Rattle.steps.proofs.Leads.{leads_small}
+use Rattle.words.proofs.Bits.{and_member}
 use Rattle.steps.proofs.Walked.{each_none, each_walked}
 use Rattle.relation.specs.Rows.{in_rows, Within, Keeps}
 use Rattle.relation.proofs.Keeping.{within_states, keeps_all, keeps_more, keeps_same}
@@ -82,20 +76,6 @@ module _ {n shared : ℕ} {old : List ℕ} (w : Within n old) (s : Sharing share
 
 -- ---- by each action
 
-module _ (into : List ℕ) (n m class : ℕ) (fits : Sized n m into) (few : class < 2 ^ n) where
-  -- the words of the row are there
-  pub row_there : (a u : ℕ) → a < m → So (member class u) → (a + 1) * n + u < length into
-  row_there a u h i = elim (dec_le n u) [ yes l ↦ never (sym (no_member n class u few l) ∙ i) | no g ↦ omega (arith, fits.room, mul-le-mul_right {m = a + 2} {n = m + 1} n (omega arith)) ]
-
-  -- those that have a step into the class, all of which are states
-  pub able_is : (a able : ℕ) → ((s : ℕ) → member able s ≡ either (member 0 s) (leads into ((a + 1) * n) class s)) → (s : ℕ) → member able s ≡ leads into ((a + 1) * n) class s
-  unfolding either
-  able_is a able e s = e s ∙ rw (none_member s)
-
-  pub able_small : (a able : ℕ) → n ≤ 64 → able < 2 ^ 64 → ((s : ℕ) → member able s ≡ either (member 0 s) (leads into ((a + 1) * n) class s)) → able < 2 ^ n
-  unfolding either
-  able_small a able n-few h e = word_small n able _ (word_of_lem n able (leads into ((a + 1) * n) class) n-few h (able_is a able e) (λ s l. leads_small n into _ class s fits.no_bit_above l))
-
 module _ (into : List ℕ) (n class : ℕ) {old : List ℕ} where
   pub undivided_none : Within n old → Keeps n (undivided into n 0 class) old old
   unfolding undivided all_of below
@@ -113,18 +93,18 @@ module _ (K : ℕ → ℕ → ℕ → Bool) where
   abbrev pub coming : List ℕ → ℕ → ℕ → ℕ → Bool
   coming rows left p q = both (in_rows rows p q) (each (member left) (λ x. K x p q) (below 64))
 
-  pub coming_none : (rows : List ℕ) (p q : ℕ) → coming rows 0 p q ≡ in_rows rows p q
+  pub coming_done : (rows : List ℕ) {left : ℕ} → left ≡ 0 → (p q : ℕ) → in_rows rows p q ≡ coming rows left p q
   unfolding both
-  coming_none rows p q = rw (each_none (λ x. K x p q)) (go (in_rows rows p q))
+  coming_done rows e p q = rw (e, each_none (λ x. K x p q)) (sym (go (in_rows rows p q)))
     where
       go : (b : Bool) → both b true ≡ b
       go true = refl
       go false = refl
 
   -- with the lowest of them taken, they are the same
-  pub coming_walked : {n : ℕ} (rows next : List ℕ) (left : ℕ) → 0 < left → left < 2 ^ 64 → Keeps n (K (count_trailing_zeros 64 left)) rows next → (p q : ℕ) → coming next (bit_and left (left - 1)) p q ≡ coming rows left p q
+  pub coming_walked : {n w x rest : ℕ} {rows next : List ℕ} → Lowest w x rest → Keeps n (K x) rows next → (p q : ℕ) → coming next rest p q ≡ coming rows w p q
   unfolding both
-  coming_walked rows next left some few k p q = rw (k.kept p q, each_walked (λ x. K x p q) left some few) (go (in_rows rows p q) _ _)
+  coming_walked {rows = rows} h k p q = rw (k.kept p q, each_walked (λ x. K x p q) h) (go (in_rows rows p q) _ _)
     where
       go : (a b c : Bool) → both (both a b) c ≡ both a (both b c)
       go true b c = refl

@@ -4,30 +4,15 @@ ghost use Rattle.std.proofs.Math.Bool.{So};
 ghost use Rattle.settle.specs.Test.{pick, both};
 ghost use Rattle.words.specs.Words.{member};
 ghost use Rattle.relation.specs.Rows.{Within};
-ghost use Rattle.classes.specs.Marking.{Cleared, fallen, PutMark, is_new, shares_row, PutMarks};
-
-// The first cells become 0: all pairs are in the relation.
-pub fn clear(buffer: &mut [u8], cells: usize)
-    requires { cells ≤ length buffer.old }
-    ensures { Cleared cells buffer.old buffer.new }
-{
-    let mut y: usize = 0;
-    while y < cells {
-        buffer[y] = 0;
-        y = y + 1;
-    }
-}
+ghost use Rattle.classes.specs.Marking.{fallen, PutMark, is_new, shares_row, PutMarks};
 
 // The mark in the cells of those that fell from the row whose cells begin at `start`.
 fn put_mark(buffer: &mut [u8], start: usize, fell: u64, mark: u8)
     requires { (q : ℕ) → So (member fell q) → start + q < length buffer.old }
     ensures { PutMark start fell mark buffer.old buffer.new }
 {
-    let mut left = fell;
-    while left != 0 {
-        let q = u64::trailing_zeros(left) as usize;
+    for q in words::members(fell) {
         buffer[start + q] = mark;
-        left = left & (left - 1);
     }
 }
 
@@ -43,22 +28,20 @@ fn put_row(was: u64, row: u64, n: usize, p: usize, mark: u8, buffer: &mut [u8]) 
         return 0;
     }
     put_mark(buffer, p * n, fell, mark);
-    if u64::trailing_zeros(row) as usize == p {
+    if row.trailing_zeros() as usize == p {
         return 1u64 << p;
     }
     0
 }
 
 // State p's bit where it shares its row, else 0.
+#[tactic(auto, using(words::proofs::Words::shl_one, crate::proofs::Putting::shares_not, crate::proofs::Putting::shares_is))]
 fn shared_bit(row: u64, p: usize) -> u64
     requires { p < 64 }
     ensures { result ≡ pick (shares_row row p) (2 ^ p) 0 }
 {
     let bit = 1u64 << p;
-    if row == bit {
-        return 0;
-    }
-    bit
+    if row == bit { 0 } else { bit }
 }
 
 // What a round left to do: the lowest states of the classes that it made, and the states that share theirs.
@@ -84,17 +67,10 @@ pub fn put_marks(
     ensures by_index_3 { (p : ℕ) → member result.shared p ≡ both (member shared p) (shares_row (get_or next.now p 0) p) }
     ensures put_marks { PutMarks n near.now next.now mark buffer.old buffer.new }
 {
-    let mut made: u64 = 0;
-    let mut still: u64 = 0;
-    let mut left = shared;
-    while left != 0 {
-        let p = u64::trailing_zeros(left) as usize;
-        made = made | put_row(near[p], next[p], n, p, mark, buffer);
-        still = still | shared_bit(next[p], p);
-        left = left & (left - 1);
+    let mut left = Left { made: 0, shared: 0 };
+    for p in words::members(shared) {
+        left.made |= put_row(near[p], next[p], n, p, mark, buffer);
+        left.shared |= shared_bit(next[p], p);
     }
-    Left {
-        made,
-        shared: still,
-    }
+    left
 }

@@ -14,10 +14,9 @@ use Rattle.beside.specs.Reading.{TwoRead, two, refused, read_two}
 use Rattle.compare.specs.Comparison.{listed, Alone, Comparison}
 use Rattle.compare.specs.Promise.{with_rounds, Compares, Answers, ComparePromise}
 use Rattle.compare.specs.declared.Comparison as Struct
-use Rattle.compare.specs.declared.CompareAnswer.{CompareAnswer}
-use Rattle.compare.specs.declared.CompareAnswer.TheVariants.{Compared, Refused}
+use Rattle.std.specs.Prelude.{Result, Ok, Err}
 
-pub not_compared : {A : Type 0} {r : Refusal} {given : Struct.Comparison} → Refused r ≡ Compared given → A
+pub not_compared : {A : Type 0} {r : Refusal} {given : Struct.Comparison} → Err r ≡ Ok given → A
 not_compared e = let z : ◌≡◌ {A = ℕ} 0 1 = cc in absurd (omega arith)
 
 pub alone_unique : (n : ℕ) (Matched : ℕ → Type 0) (xs ys : List ℕ) → Alone n Matched xs → Alone n Matched ys → xs ≡ ys
@@ -32,7 +31,7 @@ comparison_determined c d p q = (
   rounds_unique _ _ _ _ p.rounds_are q.rounds_are,
 )
 
-module _ (old a b : List ℕ) (s t : CompareAnswer) where
+module _ (old a b : List ℕ) (s t : Result Struct.Comparison Refusal) where
   compares_determined : (c d : Chart) → Compares c d old a s → Compares c d old b t → (s ≡ t) × (a ≡ b)
   compares_determined c d x y =
       let e = comparison_determined c d x.comparison y.comparison in
@@ -46,5 +45,5 @@ module _ (old a b : List ℕ) (s t : CompareAnswer) where
   answers_determined (two c d) x y = compares_determined c d x y
   answers_determined (refused r) x y = (x.0 ∙ sym y.0, x.1 ∙ sym y.1)
 
-pub compare_determined : (first second old a b : List ℕ) (s t : CompareAnswer) → ComparePromise first second old a s → ComparePromise first second old b t → (s ≡ t) × (a ≡ b)
+pub compare_determined : (first second old a b : List ℕ) (s t : Result Struct.Comparison Refusal) → ComparePromise first second old a s → ComparePromise first second old b t → (s ≡ t) × (a ≡ b)
 compare_determined first second old a b s t = answers_determined old a b s t (read_two first second)

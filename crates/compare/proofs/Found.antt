@@ -1,76 +1,66 @@
 -- The partnerless states of a matrix, state by state, as they are written after the place of their count.
-use Prim.Native.Nat.{ℕ, ◌+◌, ◌*◌, ◌≤◌, ◌<◌}
-use mathlib.Core.Path.{◌≡◌, refl, sym, ap}
-use mathlib.Core.Bool.{Bool, So}
-use mathlib.Core.List.{List, [], ◌∷◌}
+use Prim.Native.Nat.{ℕ, zero, suc, ◌+◌, ◌-◌, ◌*◌, ◌≤◌, ◌<◌}
+use mathlib.Core.Path.{◌≡◌, refl, sym, ap, ◌∙◌}
+use mathlib.Core.Bool.{Bool, true, false, So}
+use mathlib.Core.List.{List, [], ◌∷◌, ◌++◌, append_assoc}
 use native.Mathlib.Omega.{arith}
 use native.Mathlib.Nat.{mul-le-mul_right, suc-mul}
-use lib.ListN.{length, take, set, length-append}
-use lib.Seq.{take_at}
-use Rattle.text.specs.Text.{placed}
-use Rattle.text.proofs.Laws.{length_placed, placed_none, placed_one, placed_more, placed_before, put_then}
+use borrow.Author.Tests.{eq-eqb, eqb-true}
+use lib.ListN.{length, take, drop, get_or, length-append, length-drop}
+use lib.Seq.{length-take-le, get_or-take, get_or-drop}
+use Rattle.std.specs.Prelude.{nat_eq, ◌||◌}
+use Rattle.std.specs.List.{list_any}
+use Rattle.settle.proofs.Test.{never, ext, any_i, any_e}
+use Rattle.settle.proofs.Finite.{below_i, below_e}
+use Rattle.text.specs.Text.{HasRoom, Puts}
+use Rattle.text.specs.declared.Page.{Page}
+use Rattle.text.proofs.Pieces.{puts_added, room_first, puts_next, added_stands}
 use Rattle.relation.specs.Promise.{byte_at}
 use Rattle.beside.specs.Chosen.{chosen}
-use Rattle.beside.proofs.Chosen.{chosen_more, chosen_skip, chosen_length}
+use Rattle.beside.proofs.Chosen.{chosen_length}
 use Rattle.compare.specs.Comparison.{counted, listed}
-use Rattle.compare.specs.Found.{partnerless, found, TextPut}
+use Rattle.compare.specs.Found.{some_zero, partnerless, found}
 
 -- the columns of a row lie inside the matrix
 pub row_inside : (n p other count : ℕ) {cells : ℕ} → p < n → other + count ≤ n → n * n ≤ cells → p * n + other + count ≤ cells
 row_inside n p other count h k room = omega (arith, mul-le-mul_right n h, suc-mul p n)
 
--- of the numbers below k, those that pass stand after the place `at`, and `next` is the place after them
-pub record Listing (passes : ℕ → Bool) (old : List ℕ) (at k : ℕ) (new : List ℕ) (next : ℕ) : Type 0 where
-  pub next_is : next ≡ at + 1 + length (chosen passes k)
-  pub bytes_are : new ≡ placed old (at + 1) (chosen passes k)
+-- one of the cells is 0
+some_in : (p : ℕ → Bool) (s : List ℕ) → So (list_any p s) → (i : ℕ) × (i < length s) × So (p (get_or s i 0))
+some_in p [] t = never t
+some_in p (x ∷ s) t = go (p x) refl t (some_in p s)
+  where
+    go : (b : Bool) → p x ≡ b → So (b || list_any p s) → (So (list_any p s) → (i : ℕ) × (i < length s) × So (p (get_or s i 0))) → (i : ℕ) × (i < length (x ∷ s)) × So (p (get_or (x ∷ s) i 0))
+    go true e t rest = (0, omega arith, e)
+    go false e t rest = let r = rest t in (suc r.0, omega (arith, r.1), r.2)
 
-module _ (passes : ℕ → Bool) (old : List ℕ) (at : ℕ) where
-  pub listing_none : {next : ℕ} → next ≡ at + 1 → Listing passes old at 0 old next
-  unfolding chosen
-  listing_none e = record { next_is = omega arith; bytes_are = placed_none old (at + 1) }
+in_some : (p : ℕ → Bool) (s : List ℕ) (i : ℕ) → i < length s → So (p (get_or s i 0)) → So (list_any p s)
+in_some p [] i h t = absurd (omega arith)
+in_some p (x ∷ s) zero h t = rw t refl
+in_some p (x ∷ s) (suc i) h t = go (p x) (in_some p s i (omega arith) t)
+  where
+    go : (b : Bool) → So (list_any p s) → So (b || list_any p s)
+    go true t = refl
+    go false t = t
 
-  module _ {k : ℕ} {new : List ℕ} {next : ℕ} (l : Listing passes old at k new next) where
-    -- there is room for one more
-    pub listing_room : at + 1 + k < length old → next < length new
-    listing_room h =
-        let few = chosen_length passes k in
-        omega (arith, l.next_is, ap length l.bytes_are, length_placed old (at + 1) (chosen passes k) (omega arith))
+pub zero_among : (matrix : List ℕ) (from count : ℕ) → from + count ≤ length matrix → list_any (λ y. nat_eq y 0) (take (from + count - from) (drop from matrix)) ≡ some_zero matrix from count
+zero_among matrix from count room =
+    let e : from + count - from ≡ count = omega arith in
+    let size : length (take count (drop from matrix)) ≡ count = length-take-le count (drop from matrix) (omega (arith, length-drop from matrix)) in
+    rw e (ext
+    (λ t. (let r = some_in (λ y. nat_eq y 0) _ t in any_i _ (below_i count r.0 (omega (arith, r.1))) (eq-eqb _ _ (sym (cell r.0 (omega (arith, r.1))) ∙ eqb-true _ _ r.2))))
+    (λ t. (let r = any_e _ _ t in let h = below_e count r.0 r.1 in in_some (λ y. nat_eq y 0) _ r.0 (omega (arith, h)) (eq-eqb _ _ (cell r.0 h ∙ eqb-true _ _ r.2)))))
+  where
+    cell : (i : ℕ) → i < count → get_or (take count (drop from matrix)) i 0 ≡ get_or matrix (from + i) 0
+    cell i h = get_or-take count (drop from matrix) i 0 h ∙ get_or-drop from matrix i 0
 
-    pub listing_more : at + 1 + k < length old → So (passes k) → Listing passes old at (k + 1) (set new next k) (next + 1)
-    listing_more h t =
-        let few = chosen_length passes k in
-        record {
-          next_is = rw (chosen_more passes k t) (omega (arith, l.next_is, length-append (chosen passes k) (k ∷ [])));
-          bytes_are = rw (chosen_more passes k t, l.next_is, l.bytes_are) (placed_more old (at + 1) (chosen passes k) k (omega arith));
-        }
-
-    pub listing_skip : (So (passes k) → ⊥) → Listing passes old at (k + 1) new next
-    listing_skip f = record { next_is = rw (chosen_skip passes k f) l.next_is; bytes_are = rw (chosen_skip passes k f) l.bytes_are }
-
-    -- the count is stored last
-    pub listing_done : at + 1 + k ≤ length old → {size : ℕ} → size ≡ length (chosen passes k) → TextPut (counted (chosen passes k)) old at (set new at size) next
-    listing_done h e =
-        let few = chosen_length passes k in
-        record { after_is = omega (arith, l.next_is); bytes_are = rw (e, l.bytes_are) (placed_before old at (chosen passes k) (length (chosen passes k)) (omega arith)) }
+pub partnerless_start : (passes : ℕ → Bool) (list : List ℕ) → list ≡ [] → list ≡ chosen passes 0
+unfolding chosen
+partnerless_start passes list e = e
 
 -- no more states are partnerless than there are
 pub partnerless_few : (matrix : List ℕ) (n low own other count : ℕ) → length (partnerless matrix n low own other count) ≤ own
 partnerless_few matrix n low own other count = chosen_length _ own
-
--- the mark, then one list after its count, then the other
-pub list_put : (old : List ℕ) (mark : ℕ) (first second : List ℕ) {mid new : List ℕ} {next after : ℕ} → 3 + length first + length second ≤ length old
-    → TextPut (counted first) (set old 0 mark) 1 mid next → TextPut (counted second) mid next new after → TextPut (listed mark first second) old 0 new after
-list_put old mark first second room p q =
-    let a = put_then old 0 (mark ∷ []) (counted first) (omega arith) (refl, placed_one old 0 mark (omega arith)) (p.after_is, p.bytes_are) in
-    let b = put_then old 0 (mark ∷ counted first) (counted second) (omega arith) a (q.after_is, q.bytes_are) in
-    record { after_is = b.0; bytes_are = b.1 }
-
--- what was put at the start is what stands there
-pub text_stands : (text old : List ℕ) {new : List ℕ} {after : ℕ} → length text ≤ length old → TextPut text old 0 new after → (after ≡ length text) × (take after new ≡ text) × (after ≤ length new)
-unfolding placed
-text_stands text old {new} {after} room p =
-    let e : after ≡ length text = omega (arith, p.after_is) in
-    (e, rw p.bytes_are (take_at text _ after (sym e)), omega (arith, ap length p.bytes_are, length_placed old 0 text (omega arith)))
 
 pub listed_length : (mark : ℕ) (first second : List ℕ) → length (listed mark first second) ≡ 3 + length first + length second
 listed_length mark first second = omega (arith, length-append (counted first) (counted second))
@@ -81,3 +71,21 @@ found_short matrix first second =
     let a = partnerless_few matrix (first + second) 0 first first second in
     let b = partnerless_few matrix (first + second) first second 0 first in
     omega (arith, listed_length (byte_at (first + second) matrix 0 first) (partnerless matrix (first + second) 0 first first second) (partnerless matrix (first + second) first second 0 first))
+
+-- the mark, then one list after its count, then the other, on a page
+pub list_put : (p₀ p₁ p₂ p₃ p₄ : Page) (mark : ℕ) (first second : List ℕ) → p₀.at ≡ 0 → 3 + length first + length second ≤ length p₀.bytes.now
+    → Puts p₀ (mark ∷ length first ∷ []) p₁ → Puts p₁ first p₂ → Puts p₂ (length second ∷ []) p₃ → Puts p₃ second p₄
+    → (take p₄.at p₄.bytes.now ≡ listed mark first second) × (p₄.at ≤ length p₄.bytes.now)
+list_put p₀ p₁ p₂ p₃ p₄ mark first second start room q₁ q₂ q₃ q₄ =
+    let u : List ℕ = mark ∷ length first ∷ [] in
+    let v : List ℕ = length second ∷ [] in
+    let same : listed mark first second ≡ u ++ first ++ v ++ second = sym (append_assoc (u ++ first) v second) in
+    let all : HasRoom p₀ (u ++ first ++ v ++ second) = omega (arith, ap length same, listed_length mark first second) in
+    let room₃ = room_first p₀ (u ++ first ++ v) second all in
+    let room₂ = room_first p₀ (u ++ first) v room₃ in
+    let room₁ = room_first p₀ u first room₂ in
+    let a₁ = puts_added p₀ u p₁ room₁ q₁ in
+    let a₂ = puts_next p₀ u first p₁ p₂ room₂ a₁ q₂ in
+    let a₃ = puts_next p₀ (u ++ first) v p₂ p₃ room₃ a₂ q₃ in
+    let stands = added_stands p₀ (u ++ first ++ v ++ second) p₄ start all (puts_next p₀ (u ++ first ++ v) second p₃ p₄ all a₃ q₄) in
+    (stands.0 ∙ sym same, stands.1)

@@ -13,8 +13,8 @@ use Rattle.beside.proofs.Reading.{two_read, first_formed}
 use Rattle.compare.specs.Comparison.{listed, Alone, Comparison}
 use Rattle.compare.specs.Promise.{ComparePromise}
 use Rattle.compare.specs.declared.Comparison as Struct
-use Rattle.compare.specs.declared.CompareAnswer.TheVariants.{Compared}
 use Rattle.compare.proofs.Told.{told}
+use Rattle.std.specs.Prelude.{Ok}
 
 -- where all are matched, none is listed
 none_alone : {n : ℕ} {Matched : ℕ → Type 0} (list : List ℕ) → Alone n Matched list → ((p : ℕ) → p < n → Matched p) → list ≡ []
@@ -29,7 +29,7 @@ itself_compared c {mark} {rounds} {first} {second} some w = (
   none_alone second w.second_alone (λ p h. (p, self_partners c p h)),
 )
 
-pub itself_three_zeros : (chart : List ℕ) → Bytes chart → (old new : List ℕ) (given : Struct.Comparison) → ComparePromise chart chart old new (Compared given)
+pub itself_three_zeros : (chart : List ℕ) → Bytes chart → (old new : List ℕ) (given : Struct.Comparison) → ComparePromise chart chart old new (Ok given)
     → (given.written ≡ 3) × (take 3 new ≡ 0 ∷ 0 ∷ 0 ∷ [])
 itself_three_zeros chart bytes old new given p =
     let t = told chart chart old new given p in

@@ -13,10 +13,10 @@ use Rattle.beside.proofs.Formed.{fine_exactly}
 use Rattle.beside.proofs.Reading.{two_read}
 use Rattle.compare.specs.Comparison.{listed, longest_comparison, Alone, Comparison}
 use Rattle.compare.specs.Promise.{Answers, ComparePromise}
-use Rattle.compare.specs.declared.CompareAnswer.TheVariants.{Refused}
 use Rattle.compare.proofs.Found.{listed_length}
 use Rattle.compare.proofs.Determined.{not_compared}
 use Rattle.compare.proofs.Told.{reading_number}
+use Rattle.std.specs.Prelude.{Err}
 
 -- no more are listed than there are
 alone_few : {n : ℕ} {Matched : ℕ → Type 0} (list : List ℕ) → Alone n Matched list → length list ≤ n
@@ -29,10 +29,10 @@ comparison_short c d {mark} {rounds} {first} {second} w =
     (omega arith, omega (arith, alone_few first w.first_alone, alone_few second w.second_alone))
 
 -- a buffer as long as the longest list is never refused 14
-pub comparison_room : (first second old new : List ℕ) (r : Refusal) → longest_comparison ≤ length old → ComparePromise first second old new (Refused r) → r.number ≡ 14 → ⊥
+pub comparison_room : (first second old new : List ℕ) (r : Refusal) → longest_comparison ≤ length old → ComparePromise first second old new (Err r) → r.number ≡ 14 → ⊥
 comparison_room first second old new r room = by_read (read_two first second) refl
   where
-    by_read : (t : TwoRead) → read_two first second ≡ t → Answers t old new (Refused r) → r.number ≡ 14 → ⊥
+    by_read : (t : TwoRead) → read_two first second ≡ t → Answers t old new (Err r) → r.number ≡ 14 → ⊥
     by_read (refused s) e p z = let a = p.0 in let q : s ≡ r = cc in omega (arith, ap (λ (x : Refusal). x.number) q, reading_number first second s e (omega (arith, ap (λ (x : Refusal). x.number) q)))
     by_read (two c d) e p z =
         let few = ((fine_exactly c d).0 (two_read first second c d e).fine).0 in

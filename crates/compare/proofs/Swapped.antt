@@ -13,10 +13,10 @@ use Rattle.beside.proofs.Reading.{two_read, read_two_lem, both_swapped, first_fo
 use Rattle.compare.specs.Comparison.{listed, Alone, Comparison}
 use Rattle.compare.specs.Promise.{ComparePromise}
 use Rattle.compare.specs.declared.Comparison as Struct
-use Rattle.compare.specs.declared.CompareAnswer.TheVariants.{Compared}
 use Rattle.compare.proofs.Compared.{comparison_by}
 use Rattle.compare.proofs.Determined.{comparison_determined}
 use Rattle.compare.proofs.Told.{told}
+use Rattle.std.specs.Prelude.{Ok}
 
 alone_by : {n : ℕ} {M N : ℕ → Type 0} {list : List ℕ} → ((p : ℕ) → M p → N p) → ((p : ℕ) → N p → M p) → Alone n M list → Alone n N list
 alone_by f g a = record { rising = a.rising; exactly = λ p. (λ m. let x = (a.exactly p).0 m in (x.0, λ y. x.1 (g p y)), λ x. (a.exactly p).1 (x.0, λ y. x.1 (f p y))) }
@@ -40,7 +40,7 @@ pub record Exchanged (given given' : Struct.Comparison) (new new' : List ℕ) : 
   pub rounds_same : given.rounds ≡ given'.rounds
 
 pub compare_swapped : (first second : List ℕ) → Bytes first → Bytes second → (old new old' new' : List ℕ) (given given' : Struct.Comparison)
-    → ComparePromise first second old new (Compared given) → ComparePromise second first old' new' (Compared given') → Exchanged given given' new new'
+    → ComparePromise first second old new (Ok given) → ComparePromise second first old' new' (Ok given') → Exchanged given given' new new'
 compare_swapped first second first_bytes second_bytes old new old' new' given given' p q =
     let t = told first second old new given p in
     let u = told second first old' new' given' q in

@@ -1,8 +1,7 @@
 -- What is read off the matrix of marks: the rows without a 0 in the columns of the other chart.
-use Rattle.std.specs.Prelude.{ℕ, ◌+◌, ◌*◌, ◌≡◌, Bool, List, length, get_or, eqb}
+use Rattle.std.specs.Prelude.{ℕ, ◌+◌, ◌*◌, Bool, List, get_or, eqb}
 use Rattle.settle.specs.Test.{neg, any_of}
 use Rattle.settle.specs.Finite.{below}
-use Rattle.text.specs.Text.{placed}
 use Rattle.relation.specs.Promise.{byte_at}
 use Rattle.beside.specs.Chosen.{chosen}
 use Rattle.compare.specs.Comparison.{listed}
@@ -21,8 +20,3 @@ abbrev pub found : List ℕ → ℕ → ℕ → List ℕ
 found matrix first second =
     let n = first + second in
     listed (byte_at n matrix 0 first) (partnerless matrix n 0 first first second) (partnerless matrix n first second 0 first)
-
--- a text was put at a place
-pub record TextPut (text old : List ℕ) (at : ℕ) (new : List ℕ) (after : ℕ) : Type 0 where
-  pub after_is : after ≡ at + length text
-  pub bytes_are : new ≡ placed old at text

@@ -18,8 +18,6 @@ use Rattle.refusal.specs.declared.Refusal.{Refusal}
 use Rattle.chart.specs.Chart.{Step}
 use Rattle.chart.specs.Reading.{chart_in, read_chart}
 use Rattle.chart.specs.declared.Shape.{Shape}
-use Rattle.chart.specs.declared.ChartRead.{ChartRead}
-use Rattle.chart.specs.declared.ChartRead.TheVariants as Read
 use Rattle.chart.proofs.Accepted.{accepted, each_step, never_both, same_shape}
 use Rattle.sheet.proofs.Meaning.{TargetsBelow}
 use Rattle.words.specs.Words.{member, word_of}
@@ -32,18 +30,17 @@ use Rattle.nearness.proofs.Rounds.{near_rounds, equal_iff}
 use Rattle.relation.specs.Settles.{Settles}
 use Rattle.relation.specs.declared.Settled.{Settled}
 use Rattle.relation.proofs.Keeping.{within_states}
-use Rattle.equal.specs.Working.{EqualWords, Put}
+use Rattle.equal.specs.Working.{EqualWords}
 use Rattle.equal.specs.Promise.{TellsEqual, pairs_in, EqualRows, RowsPromise, HowMany, PairsPromise, RowsRefusedExactly, PairsRefusedExactly, RowsDetermined, PairsDetermined, SixtyFourWords, SetWhereMarkZero, CountOfBits, AtLeastN, NExactly}
-use Rattle.equal.specs.declared.EqualAnswer.{EqualAnswer}
-use Rattle.equal.specs.declared.EqualAnswer.TheVariants as Answer
 use Rattle.equal.proofs.Counting.{diagonal, diagonal_count, count_more, same_bits}
+use Rattle.std.specs.Prelude.{Result, Ok, Err}
 
 -- ---- what the rounds find
 
-targets : (chart : List ℕ) (sh : Shape) → read_chart chart ≡ Read.Chart sh → TargetsBelow sh.n (chart_in chart sh).steps
+targets : (chart : List ℕ) (sh : Shape) → read_chart chart ≡ Ok sh → TargetsBelow sh.n (chart_in chart sh).steps
 targets chart sh read u i = (each_step chart sh read u i).target_in
 
-pub settled_equal : (chart : List ℕ) (sh : Shape) → read_chart chart ≡ Read.Chart sh → (s : Settled) → Settles sh.n (Near (chart_in chart sh).steps) s → EqualWords sh.n (chart_in chart sh).steps s.rows
+pub settled_equal : (chart : List ℕ) (sh : Shape) → read_chart chart ≡ Ok sh → (s : Settled) → Settles sh.n (Near (chart_in chart sh).steps) s → EqualWords sh.n (chart_in chart sh).steps s.rows
 settled_equal chart sh read s h =
     record {
       within = h.rows_hold.within;
@@ -59,15 +56,16 @@ module _ (n : ℕ) (steps : List Step) where
   pub how_many : (P : Relation) → TellsEqual n steps P → HowMany n steps (count P (pairs n))
   how_many P f Q g = count_cong P Q (pairs n) (λ x m. let b = pairs_e_lem n x m in tell_alike P Q f g x.0 x.1 b.0 b.1)
 
-  pub put_equal : {words old new : List ℕ} → EqualWords n steps words → Put words 64 old new → EqualRows n steps old new
-  put_equal {words} {old} {new} w put =
+  -- the words stand in the lent array, where 64 are lent
+  pub words_equal : {words old : List ℕ} → EqualWords n steps words → length words ≡ 64 → length old ≡ 64 → EqualRows n steps old words
+  words_equal {words} {old} w size lent =
       record {
-        bit_exactly = λ p q few room. subst⁻¹ (λ (x : ℕ). So (member x q) ↔ ((p < n) × (q < n) × Bisimilar steps p q)) (put.before p few room) (
+        bit_exactly = λ p q few room. (
           λ t. (let s = within_states w.within p q t in (s.0, s.1, (w.tells p q s.0 s.1).0 t)),
           λ b. (w.tells p q b.0 b.1).1 b.2,
         );
-        later_words_stay = put.after;
-        length_stays = put.same_length;
+        later_words_stay = λ p l. get_or-eq_default words 0 (omega arith) ∙ sym (get_or-eq_default old 0 (omega arith));
+        length_stays = size ∙ sym lent;
       }
 
   -- a word is determined by what is said of its bits
@@ -81,31 +79,31 @@ module _ (n : ℕ) (steps : List Step) where
 
 -- ---- the promises in each case
 
-pub rows_refused : (chart old : List ℕ) (r : Refusal) → read_chart chart ≡ Read.Refused r → RowsPromise chart old old (Answer.Refused r)
+pub rows_refused : (chart old : List ℕ) (r : Refusal) → read_chart chart ≡ Err r → RowsPromise chart old old (Err r)
 rows_refused chart old r e =
     record {
-      chart_refused = λ s f. let z : r ≡ s = cc in ap Answer.Refused z;
+      chart_refused = λ s f. let z : r ≡ s = cc in ap Err z;
       then_answered = λ sh f. never_both f e;
       refusal_leaves_all = λ s f. refl;
     }
 
-pub pairs_refused : (chart : List ℕ) (r : Refusal) → read_chart chart ≡ Read.Refused r → PairsPromise chart (Answer.Refused r)
+pub pairs_refused : (chart : List ℕ) (r : Refusal) → read_chart chart ≡ Err r → PairsPromise chart (Err r)
 pairs_refused chart r e =
     record {
-      chart_refused = λ s f. let z : r ≡ s = cc in ap Answer.Refused z;
+      chart_refused = λ s f. let z : r ≡ s = cc in ap Err z;
       then_answered = λ sh f. never_both f e;
     }
 
-module _ (chart : List ℕ) (sh : Shape) (read : read_chart chart ≡ Read.Chart sh) where
-  pub rows_answered : {old new : List ℕ} → EqualRows sh.n (chart_in chart sh).steps old new → RowsPromise chart old new (Answer.Counted sh.n)
+module _ (chart : List ℕ) (sh : Shape) (read : read_chart chart ≡ Ok sh) where
+  pub rows_answered : {old new : List ℕ} → EqualRows sh.n (chart_in chart sh).steps old new → RowsPromise chart old new (Ok sh.n)
   rows_answered {old} {new} w =
       record {
         chart_refused = λ r f. never_both read f;
-        then_answered = λ u f. subst (λ (x : Shape). (Answer.Counted sh.n ≡ Answer.Counted x.n) × EqualRows x.n (chart_in chart x).steps old new) (same_shape read f) (refl, w);
+        then_answered = λ u f. subst (λ (x : Shape). ◌≡◌ {A = Result ℕ Refusal} (Ok sh.n) (Ok x.n) × EqualRows x.n (chart_in chart x).steps old new) (same_shape read f) (refl, w);
         refusal_leaves_all = λ r f. (let z : ◌≡◌ {A = ℕ} 0 1 = cc in absurd (omega arith));
       }
 
-  pub pairs_answered : {c : ℕ} → HowMany sh.n (chart_in chart sh).steps c → PairsPromise chart (Answer.Counted c)
+  pub pairs_answered : {c : ℕ} → HowMany sh.n (chart_in chart sh).steps c → PairsPromise chart (Ok c)
   pairs_answered {c} h =
       record {
         chart_refused = λ r f. never_both read f;
@@ -117,32 +115,32 @@ module _ (chart : List ℕ) (sh : Shape) (read : read_chart chart ≡ Read.Chart
 pub rows_refused_exactly : RowsRefusedExactly
 rows_refused_exactly chart old new answer w r = (go (read_chart chart) refl, w.chart_refused r)
   where
-    go : (x : ChartRead) → read_chart chart ≡ x → answer ≡ Answer.Refused r → read_chart chart ≡ Read.Refused r
-    go (Read.Refused s) e f = let a : answer ≡ Answer.Refused s = w.chart_refused s e in cc
-    go (Read.Chart sh) e f = let a : answer ≡ Answer.Counted sh.n = (w.then_answered sh e).0 in let z : ◌≡◌ {A = ℕ} 0 1 = cc in absurd (omega arith)
+    go : (x : Result Shape Refusal) → read_chart chart ≡ x → answer ≡ Err r → read_chart chart ≡ Err r
+    go (Err s) e f = let a : answer ≡ Err s = w.chart_refused s e in cc
+    go (Ok sh) e f = let a : answer ≡ Ok sh.n = (w.then_answered sh e).0 in let z : ◌≡◌ {A = ℕ} 0 1 = cc in absurd (omega arith)
 
 pub pairs_refused_exactly : PairsRefusedExactly
 pairs_refused_exactly chart answer w r = (go (read_chart chart) refl, w.chart_refused r)
   where
-    go : (x : ChartRead) → read_chart chart ≡ x → answer ≡ Answer.Refused r → read_chart chart ≡ Read.Refused r
-    go (Read.Refused s) e f = let a : answer ≡ Answer.Refused s = w.chart_refused s e in cc
-    go (Read.Chart sh) e f = let g = w.then_answered sh e in let a : answer ≡ Answer.Counted g.0 = g.1 in let z : ◌≡◌ {A = ℕ} 0 1 = cc in absurd (omega arith)
+    go : (x : Result Shape Refusal) → read_chart chart ≡ x → answer ≡ Err r → read_chart chart ≡ Err r
+    go (Err s) e f = let a : answer ≡ Err s = w.chart_refused s e in cc
+    go (Ok sh) e f = let g = w.then_answered sh e in let a : answer ≡ Ok g.0 = g.1 in let z : ◌≡◌ {A = ℕ} 0 1 = cc in absurd (omega arith)
 
 pub rows_determined : RowsDetermined
 rows_determined chart old a b s t w z = go (read_chart chart) refl
   where
-    go : (x : ChartRead) → read_chart chart ≡ x → (s ≡ t) × (a ≡ b)
-    go (Read.Refused r) e =
+    go : (x : Result Shape Refusal) → read_chart chart ≡ x → (s ≡ t) × (a ≡ b)
+    go (Err r) e =
         let f = w.chart_refused r e in
         let g = z.chart_refused r e in
         (f ∙ sym g, w.refusal_leaves_all r f ∙ sym (z.refusal_leaves_all r g))
-    go (Read.Chart sh) e =
+    go (Ok sh) e =
         let f = w.then_answered sh e in
         let g = z.then_answered sh e in
         (f.0 ∙ sym g.0, equal_rows_same sh.n (chart_in chart sh).steps f.1 g.1)
 
 -- every chart has a test that tells its equal states: the relation where the rounds settle
-module _ (chart : List ℕ) (sh : Shape) (read : read_chart chart ≡ Read.Chart sh) where
+module _ (chart : List ℕ) (sh : Shape) (read : read_chart chart ≡ Ok sh) where
   abbrev steps : List Step
   steps = (chart_in chart sh).steps
 
@@ -156,27 +154,27 @@ module _ (chart : List ℕ) (sh : Shape) (read : read_chart chart ≡ Read.Chart
   diagonal_inside : Inside (pairs sh.n) diagonal (Near steps settled_round.0)
   diagonal_inside x m t = subst (λ (q : ℕ). So (Near steps settled_round.0 (x.0, q))) (eqb-true _ _ t) (near_refl steps _ x.0)
 
-  counted : (c : ℕ) → PairsPromise chart (Answer.Counted c) → HowMany sh.n steps c
+  counted : (c : ℕ) → PairsPromise chart (Ok c) → HowMany sh.n steps c
   counted c w = let g = w.then_answered sh read in let e : g.0 ≡ c = cc in subst (HowMany sh.n steps) e g.2
 
-  counted_settled : (c : ℕ) → PairsPromise chart (Answer.Counted c) → c ≡ count (Near steps settled_round.0) (pairs sh.n)
+  counted_settled : (c : ℕ) → PairsPromise chart (Ok c) → c ≡ count (Near steps settled_round.0) (pairs sh.n)
   counted_settled c w = counted c w _ settled_tells
 
 pub pairs_determined : PairsDetermined
 pairs_determined chart s t w z = go (read_chart chart) refl
   where
-    go : (x : ChartRead) → read_chart chart ≡ x → s ≡ t
-    go (Read.Refused r) e = w.chart_refused r e ∙ sym (z.chart_refused r e)
-    go (Read.Chart sh) e =
+    go : (x : Result Shape Refusal) → read_chart chart ≡ x → s ≡ t
+    go (Err r) e = w.chart_refused r e ∙ sym (z.chart_refused r e)
+    go (Ok sh) e =
         let f = w.then_answered sh e in
         let g = z.then_answered sh e in
         let R : Relation = Near (chart_in chart sh).steps (settled_round chart sh e).0 in
         let tells = settled_tells chart sh e in
-        f.1 ∙ ap Answer.Counted (f.2 R tells ∙ sym (g.2 R tells)) ∙ sym g.1
+        f.1 ∙ ap Ok (f.2 R tells ∙ sym (g.2 R tells)) ∙ sym g.1
 
 -- ---- the words
 
-module _ (chart : List ℕ) (sh : Shape) (read : read_chart chart ≡ Read.Chart sh) (old new : List ℕ) (answer : EqualAnswer) (lent : length old ≡ 64) (w : RowsPromise chart old new answer) where
+module _ (chart : List ℕ) (sh : Shape) (read : read_chart chart ≡ Ok sh) (old new : List ℕ) (answer : Result ℕ Refusal) (lent : length old ≡ 64) (w : RowsPromise chart old new answer) where
   rows_tell : TellsEqual sh.n (chart_in chart sh).steps (pairs_in new)
   rows_tell p q i j =
       let few = (accepted chart sh read).states_few in

@@ -7,14 +7,12 @@ use Rattle.refusal.specs.declared.Refusal.{Refusal}
 use Rattle.chart.specs.Chart.{Step}
 use Rattle.chart.specs.Reading.{chart_in, read_chart}
 use Rattle.chart.specs.declared.Shape.{Shape}
-use Rattle.chart.specs.declared.ChartRead.TheVariants as Read
 use Rattle.words.specs.Words.{word_of}
 use Rattle.nearness.specs.Relation.{Relation}
 use Rattle.nearness.specs.Bisimulation.{Bisimilar}
 use Rattle.nearness.specs.Mark.{Mark}
 use Rattle.relation.specs.Rows.{in_rows}
-use Rattle.equal.specs.declared.EqualAnswer.{EqualAnswer}
-use Rattle.equal.specs.declared.EqualAnswer.TheVariants as Answer
+use Rattle.std.specs.Prelude.{Result, Ok, Err}
 
 -- P holds of the pairs of equal states, and of no other pair of states
 abbrev pub TellsEqual : ℕ → List Step → Relation → Type 0
@@ -33,10 +31,10 @@ pub record EqualRows (n : ℕ) (steps : List Step) (old new : List ℕ) : Type 0
   pub length_stays : length new ≡ length old
 
 -- old is the lent array before the call, new after
-pub record RowsPromise (chart old new : List ℕ) (answer : EqualAnswer) : Type 0 where
-  pub chart_refused : (r : Refusal) → read_chart chart ≡ Read.Refused r → answer ≡ Answer.Refused r
-  pub then_answered : (sh : Shape) → read_chart chart ≡ Read.Chart sh → (answer ≡ Answer.Counted sh.n) × EqualRows sh.n (chart_in chart sh).steps old new
-  pub refusal_leaves_all : (r : Refusal) → answer ≡ Answer.Refused r → new ≡ old
+pub record RowsPromise (chart old new : List ℕ) (answer : Result ℕ Refusal) : Type 0 where
+  pub chart_refused : (r : Refusal) → read_chart chart ≡ Err r → answer ≡ Err r
+  pub then_answered : (sh : Shape) → read_chart chart ≡ Ok sh → (answer ≡ Ok sh.n) × EqualRows sh.n (chart_in chart sh).steps old new
+  pub refusal_leaves_all : (r : Refusal) → answer ≡ Err r → new ≡ old
 
 -- ---- the pairs
 
@@ -44,47 +42,47 @@ pub record RowsPromise (chart old new : List ℕ) (answer : EqualAnswer) : Type 
 abbrev pub HowMany : ℕ → List Step → ℕ → Type 0
 HowMany n steps c = (P : Relation) → TellsEqual n steps P → c ≡ count P (pairs n)
 
-pub record PairsPromise (chart : List ℕ) (answer : EqualAnswer) : Type 0 where
-  pub chart_refused : (r : Refusal) → read_chart chart ≡ Read.Refused r → answer ≡ Answer.Refused r
-  pub then_answered : (sh : Shape) → read_chart chart ≡ Read.Chart sh → (c : ℕ) × (answer ≡ Answer.Counted c) × HowMany sh.n (chart_in chart sh).steps c
+pub record PairsPromise (chart : List ℕ) (answer : Result ℕ Refusal) : Type 0 where
+  pub chart_refused : (r : Refusal) → read_chart chart ≡ Err r → answer ≡ Err r
+  pub then_answered : (sh : Shape) → read_chart chart ≡ Ok sh → (c : ℕ) × (answer ≡ Ok c) × HowMany sh.n (chart_in chart sh).steps c
 
 -- ---- what follows of them
 
 -- they refuse what the chart's reader refuses, and as it does; so an accepted chart is never refused
 abbrev pub RowsRefusedExactly : Type 0
-RowsRefusedExactly = (chart old new : List ℕ) (answer : EqualAnswer) → RowsPromise chart old new answer → (r : Refusal) → (answer ≡ Answer.Refused r) ↔ (read_chart chart ≡ Read.Refused r)
+RowsRefusedExactly = (chart old new : List ℕ) (answer : Result ℕ Refusal) → RowsPromise chart old new answer → (r : Refusal) → (answer ≡ Err r) ↔ (read_chart chart ≡ Err r)
 
 abbrev pub PairsRefusedExactly : Type 0
-PairsRefusedExactly = (chart : List ℕ) (answer : EqualAnswer) → PairsPromise chart answer → (r : Refusal) → (answer ≡ Answer.Refused r) ↔ (read_chart chart ≡ Read.Refused r)
+PairsRefusedExactly = (chart : List ℕ) (answer : Result ℕ Refusal) → PairsPromise chart answer → (r : Refusal) → (answer ≡ Err r) ↔ (read_chart chart ≡ Err r)
 
 -- any two answers, and any two arrays, that they allow for the same input are equal
 abbrev pub RowsDetermined : Type 0
-RowsDetermined = (chart old a b : List ℕ) (s t : EqualAnswer) → RowsPromise chart old a s → RowsPromise chart old b t → (s ≡ t) × (a ≡ b)
+RowsDetermined = (chart old a b : List ℕ) (s t : Result ℕ Refusal) → RowsPromise chart old a s → RowsPromise chart old b t → (s ≡ t) × (a ≡ b)
 
 abbrev pub PairsDetermined : Type 0
-PairsDetermined = (chart : List ℕ) (s t : EqualAnswer) → PairsPromise chart s → PairsPromise chart t → s ≡ t
+PairsDetermined = (chart : List ℕ) (s t : Result ℕ Refusal) → PairsPromise chart s → PairsPromise chart t → s ≡ t
 
 -- where 64 words are lent, what they are after: the words of any test that tells the equal pairs, and 0 from n on
 abbrev pub SixtyFourWords : Type 0
-SixtyFourWords = (chart : List ℕ) (sh : Shape) → read_chart chart ≡ Read.Chart sh → (old new : List ℕ) (answer : EqualAnswer) → length old ≡ 64 → RowsPromise chart old new answer
+SixtyFourWords = (chart : List ℕ) (sh : Shape) → read_chart chart ≡ Ok sh → (old new : List ℕ) (answer : Result ℕ Refusal) → length old ≡ 64 → RowsPromise chart old new answer
     → (P : Relation) → TellsEqual sh.n (chart_in chart sh).steps P
     → (length new ≡ 64) × ((p : ℕ) → p < sh.n → get_or new p 0 ≡ word_of sh.n (λ q. P (p, q))) × ((p : ℕ) → sh.n ≤ p → get_or new p 0 ≡ 0)
 
 -- of each pair of states the words say what its mark says: set where it is 0
 abbrev pub SetWhereMarkZero : Type 0
-SetWhereMarkZero = (chart : List ℕ) (sh : Shape) → read_chart chart ≡ Read.Chart sh → (old new : List ℕ) (answer : EqualAnswer) → length old ≡ 64 → RowsPromise chart old new answer
+SetWhereMarkZero = (chart : List ℕ) (sh : Shape) → read_chart chart ≡ Ok sh → (old new : List ℕ) (answer : Result ℕ Refusal) → length old ≡ 64 → RowsPromise chart old new answer
     → (p q : ℕ) → p < sh.n → q < sh.n → So (in_rows new p q) ↔ Mark (chart_in chart sh).steps p q 0
 
 -- the count is that of the bits in the words
 abbrev pub CountOfBits : Type 0
-CountOfBits = (chart : List ℕ) (sh : Shape) → read_chart chart ≡ Read.Chart sh → (old new : List ℕ) (answer : EqualAnswer) → length old ≡ 64 → RowsPromise chart old new answer
-    → (c : ℕ) → PairsPromise chart (Answer.Counted c) → c ≡ count (pairs_in new) (pairs sh.n)
+CountOfBits = (chart : List ℕ) (sh : Shape) → read_chart chart ≡ Ok sh → (old new : List ℕ) (answer : Result ℕ Refusal) → length old ≡ 64 → RowsPromise chart old new answer
+    → (c : ℕ) → PairsPromise chart (Ok c) → c ≡ count (pairs_in new) (pairs sh.n)
 
 -- each state is equal to itself, so there are n pairs at least
 abbrev pub AtLeastN : Type 0
-AtLeastN = (chart : List ℕ) (sh : Shape) → read_chart chart ≡ Read.Chart sh → (c : ℕ) → PairsPromise chart (Answer.Counted c) → sh.n ≤ c
+AtLeastN = (chart : List ℕ) (sh : Shape) → read_chart chart ≡ Ok sh → (c : ℕ) → PairsPromise chart (Ok c) → sh.n ≤ c
 
 -- and n exactly if no two states that differ are equal
 abbrev pub NExactly : Type 0
-NExactly = (chart : List ℕ) (sh : Shape) → read_chart chart ≡ Read.Chart sh → (c : ℕ) → PairsPromise chart (Answer.Counted c)
+NExactly = (chart : List ℕ) (sh : Shape) → read_chart chart ≡ Ok sh → (c : ℕ) → PairsPromise chart (Ok c)
     → (c ≡ sh.n) ↔ ((p q : ℕ) → p < sh.n → q < sh.n → Bisimilar (chart_in chart sh).steps p q → p ≡ q)

@@ -1,6 +1,6 @@
 -- The word of a formula that was read, a node at a time, and where the reading goes on.
-use Prim.Native.Nat.{ℕ, ◌+◌, ◌-◌, ◌*◌, ◌/◌, ◌%◌, ◌<◌, ◌≤◌, ◌^◌}
-use mathlib.Core.Path.{◌≡◌, refl, ap, sym, ◌∙◌}
+use Prim.Native.Nat.{ℕ, ◌+◌, ◌-◌, ◌<◌, ◌≤◌, ◌^◌}
+use mathlib.Core.Path.{◌≡◌, refl, ap, ◌∙◌}
 use mathlib.Core.Bool.{Bool, true, false}
 use mathlib.Core.List.{List}
 use native.Mathlib.Omega.{arith}
@@ -10,12 +10,14 @@ use lib.Dec.{eqb}
 use lib.ListN.{get_or}
 use Rattle.settle.specs.Test.{pick}
 use Rattle.sheet.specs.Formula.{Formula, variable, top, bottom, and, or, diamond, box}
-use Rattle.sheet.specs.Reading.{Leaf, Two, One, node_at, leaf_of, two_of, label_of, one_of, Parsed, parsed, wrong, on_parsed, operands, parse, packed}
+use Rattle.sheet.specs.Reading.{Leaf, Two, One, node_at, leaf_of, two_of, label_of, one_of, Parsed, parsed, wrong, on_parsed, operands, formula_read}
+use Rattle.std.specs.Prelude.{Ok}
+use Rattle.sheet.specs.declared.Unread.{Unread}
 use Rattle.sheet.proofs.Parsing.{parse_node}
-use Rattle.sheet.proofs.Reading.{place_back, left_back, no_fault, read_fewer, read_further, one_operand, second_operand}
+use Rattle.sheet.proofs.Reading.{read_parsed, read_fewer, one_operand, second_operand}
 use Rattle.words.proofs.Words.{word_lt}
-use Rattle.evaluate.specs.Evaluating.{row_of, step_word, box_word, table_word, leaf_word, joined_word, modal_word, read_at, NodesIn, WasRead, formula_of}
-use Rattle.evaluate.proofs.Operands.{formula, first_was, some_left, operands_were, is_leaf, is_two, is_one, first_of_two, operand_was}
+use Rattle.evaluate.specs.Evaluating.{row_of, step_word, box_word, table_word, leaf_word, joined_word, modal_word, read_at, WasRead, formula_of}
+use Rattle.evaluate.proofs.Operands.{formula, first_was, some_left, node_inside, action_inside, action_known, operands_were, is_leaf, is_two, is_one, first_of_two, operand_was}
 
 module _ (into : List ℕ) (n set : ℕ) where
   abbrev word : Formula → ℕ
@@ -70,128 +72,78 @@ module _ (into : List ℕ) (n set : ℕ) where
 
 -- ---- where the reading goes on
 
-module _ (b : List ℕ) (m : ℕ) where
-  pub unpacked : (at left : ℕ) → at < 512 → read_at b m (at + 512 * left) ≡ parse left b m at left
-  unpacked at left h = rw (place_back at left h, left_back at left h)
+-- after a formula fewer nodes are unread
+pub next_fewer : (b : List ℕ) (m : ℕ) (next after : Unread) → formula_read (read_at b m next) ≡ Ok after → after.left < next.left
+next_fewer b m next after ends = read_fewer b m next.at next.left after ends
 
-  -- a formula that was read
-  module _ (next : ℕ) (read : NodesIn next × WasRead (read_at b m next)) where
-    below_faults : packed (read_at b m next) < 131072
-    below_faults = go (read_at b m next) refl read.1
-      where
-        go : (u : Parsed) → read_at b m next ≡ u → WasRead u → packed u < 131072
-        go (parsed f after rest) e w = (no_fault b m (next % 512) (next / 512) read.0 f after rest e).1
-        go (wrong r) e w = absurd w
+module _ (b : List ℕ) (m : ℕ) (next : Unread) (read : WasRead (read_at b m next)) where
+  -- and fewer after a node
+  pub operand_fewer : next.left - 1 < next.left
+  operand_fewer = omega (arith, some_left b m next.at next.left read)
 
-    pub next_fewer : packed (read_at b m next) / 512 < next / 512
-    next_fewer = read_fewer b m (next % 512) (next / 512) read.0 below_faults
+  abbrev node : ℕ
+  node = get_or b next.at 0
 
-    next_in : NodesIn (packed (read_at b m next))
-    next_in = omega (arith, read.0, read_further b m (next % 512) (next / 512) read.0 below_faults)
+  here : read_at b m next ≡ operands (node_at b m next.at) (next.left - 1) (formula b m next.at next.left read)
+  here = parse_node b m next.at next.left (some_left b m next.at next.left read)
 
-  module _ (next : ℕ) (read : NodesIn next × WasRead (read_at b m next)) where
-    abbrev at : ℕ
-    at = next % 512
+  -- 0 to 2
+  module _ (known : get_or b next.at 0 < 3) where
+    leaf : node_at b m next.at ≡ Leaf node (next.at + 1)
+    leaf = is_leaf b m next.at next.left read known
 
-    abbrev left : ℕ
-    left = next / 512
+    pub leaf_next : formula_read (read_at b m next) ≡ Ok (record { at = next.at + 1; left = next.left - 1 })
+    leaf_next = ap formula_read here ∙ rw leaf
 
-    abbrev node : ℕ
-    node = get_or b at 0
+    pub leaf_value : (into : List ℕ) (n set : ℕ) → table_word into n (formula_of (read_at b m next)) set ≡ leaf_word n (get_or b next.at 0) set
+    leaf_value into n set = ap (value into n set) here ∙ rw leaf (leaf_word_lem into n set node)
 
-    pub some_node : 512 ≤ next
-    some_node = omega (arith, some_left b m at left read.1)
+  -- 3 and 4
+  module _ (above : 3 ≤ get_or b next.at 0) (known : get_or b next.at 0 < 5) where
+    abbrev first : Unread
+    first = record { at = next.at + 1; left = next.left - 1 }
 
-    here : read_at b m next ≡ operands (node_at b m at) (left - 1) (formula b m at left read.1)
-    here = parse_node b m at left (some_left b m at left read.1)
+    two : node_at b m next.at ≡ Two node (next.at + 1)
+    two = is_two b m next.at next.left read above known
 
-    -- after the node, of one or two bytes, there is one node fewer
-    module _ (k : ℕ) (few : k ≤ 2) where
-      on : next - 512 + k ≡ at + k + 512 * (left - 1)
-      on = omega (arith, some_node)
+    pub first_read : WasRead (read_at b m (record { at = next.at + 1; left = next.left - 1 }))
+    first_read = first_of_two b m next.at next.left read above known
 
-      operand_at : read_at b m (next - 512 + k) ≡ parse (left - 1) b m (at + k) (left - 1)
-      operand_at = rw on (unpacked (at + k) (left - 1) (omega (arith, read.0, some_node)))
+    -- the second was read where the first ended
+    module _ (between : Unread) (ends : formula_read (read_at b m (record { at = next.at + 1; left = next.left - 1 })) ≡ Ok between) where
+      first_is : (f : Formula) × (read_at b m first ≡ parsed f between.at between.left)
+      first_is = read_parsed b m (next.at + 1) (next.left - 1) between ends
 
-      pub operand_fewer : (next - 512 + k) / 512 < next / 512
-      operand_fewer = omega (arith, read.0, some_node)
+      pub second_fewer : between.left < next.left - 1
+      second_fewer = next_fewer b m (record { at = next.at + 1; left = next.left - 1 }) between ends
 
-      operand_in : NodesIn (next - 512 + k)
-      operand_in = omega (arith, read.0, some_node)
+      pub second_read : WasRead (read_at b m between)
+      second_read = first_was (read_at b m between) _ (rw (two, first_is.1) at (operands_were b m next.at next.left read))
 
-    -- 0 to 2
-    module _ (known : get_or b (next % 512) 0 < 3) where
-      leaf : node_at b m at ≡ Leaf node (at + 1)
-      leaf = is_leaf b m at left read.1 known
-
-      pub leaf_next : packed (read_at b m next) ≡ next - 512 + 1
-      leaf_next = ap packed here ∙ rw leaf (sym (on 1 (omega arith)))
-
-      pub leaf_value : (into : List ℕ) (n set : ℕ) → table_word into n (formula_of (read_at b m next)) set ≡ leaf_word n (get_or b (next % 512) 0) set
-      leaf_value into n set = ap (value into n set) here ∙ rw leaf (leaf_word_lem into n set node)
-
-    -- 3 and 4
-    module _ (above : 3 ≤ get_or b (next % 512) 0) (known : get_or b (next % 512) 0 < 5) where
-      abbrev first : Parsed
-      first = read_at b m (next - 512 + 1)
-
-      abbrev second : Parsed
-      second = read_at b m (packed first)
-
-      two : node_at b m at ≡ Two node (at + 1)
-      two = is_two b m at left read.1 above known
-
-      first_is : first ≡ parse (left - 1) b m (at + 1) (left - 1)
-      first_is = operand_at 1 (omega arith)
-
-      pub first_read : NodesIn (next - 512 + 1) × WasRead (read_at b m (next - 512 + 1))
-      first_read = (operand_in 1 (omega arith), rw first_is (first_of_two b m at left read.1 above known))
-
-      first_in : at + 1 + 2 * (left - 1) ≤ 510
-      first_in = omega (arith, read.0, some_node)
-
-      -- the second was read where the first ended
-      second_is : (f : Formula) (between some : ℕ) → first ≡ parsed f between some → read_at b m (between + 512 * some) ≡ parse some b m between some
-      second_is f between some e = unpacked between some (no_fault b m (at + 1) (left - 1) first_in f between some (sym first_is ∙ e)).0
-
-      pub second_read : NodesIn (packed (read_at b m (next - 512 + 1))) × WasRead (read_at b m (packed (read_at b m (next - 512 + 1))))
-      second_read = (next_in (next - 512 + 1) first_read, go first refl (rw (two, ← first_is) at (operands_were b m at left read.1)))
-        where
-          go : (u : Parsed) → first ≡ u → WasRead (on_parsed u (λ f between some. on_parsed (parse some b m between some) (λ g after rest. parsed (two_of node f g) after rest)))
-              → WasRead (read_at b m (packed u))
-          go (parsed f between some) e w = rw (second_is f between some e) (first_was (parse some b m between some) _ w)
-          go (wrong r) e w = absurd w
-
-      pub two_next : packed (read_at b m next) ≡ packed (read_at b m (packed (read_at b m (next - 512 + 1))))
-      two_next = rw first_is (second_operand b m at left (some_left b m at left read.1) two (rw first_is at (below_faults (next - 512 + 1) first_read)) first_in)
+      pub two_next : formula_read (read_at b m next) ≡ formula_read (read_at b m between)
+      two_next = second_operand b m next.at next.left (some_left b m next.at next.left read) two between ends
 
       pub two_value : (into : List ℕ) (n set : ℕ) → table_word into n (formula_of (read_at b m next)) set
-          ≡ joined_word (get_or b (next % 512) 0) (table_word into n (formula_of first) set) (table_word into n (formula_of second) set)
-      two_value into n set = ap (value into n set) here ∙ rw (two, ← first_is) (go first refl first_read.1 second_read.1)
-        where
-          go : (u : Parsed) → first ≡ u → WasRead u → WasRead (read_at b m (packed u))
-              → value into n set (on_parsed u (λ f between some. on_parsed (parse some b m between some) (λ g after rest. parsed (two_of node f g) after rest)))
-              ≡ joined_word node (value into n set u) (value into n set (read_at b m (packed u)))
-          go (parsed f between some) e w v = rw (second_is f between some e) (last_value into n set (parse some b m between some) node f (rw (second_is f between some e) at v))
-          go (wrong r) e w v = absurd w
+          ≡ joined_word (get_or b next.at 0) (table_word into n (formula_of (read_at b m (record { at = next.at + 1; left = next.left - 1 }))) set) (table_word into n (formula_of (read_at b m between)) set)
+      two_value into n set = ap (value into n set) here ∙ rw (two, first_is.1) (last_value into n set (read_at b m between) node first_is.0 second_read)
 
-    -- 5 and 6
-    module _ (above : 5 ≤ get_or b (next % 512) 0) where
-      abbrev operand : Parsed
-      operand = read_at b m (next - 512 + 2)
+  -- 5 and 6
+  module _ (above : 5 ≤ get_or b next.at 0) where
+    abbrev operand : Parsed
+    operand = read_at b m (record { at = next.at + 2; left = next.left - 1 })
 
-      one : node_at b m at ≡ One node (get_or b (at + 1) 0) (at + 2)
-      one = (is_one b m at left read.1 above).1
+    one : node_at b m next.at ≡ One node (get_or b (next.at + 1) 0) (next.at + 2)
+    one = (is_one b m next.at next.left read above).1
 
-      operand_is : operand ≡ parse (left - 1) b m (at + 2) (left - 1)
-      operand_is = operand_at 2 (omega arith)
+    pub operand_read : WasRead (read_at b m (record { at = next.at + 2; left = next.left - 1 }))
+    operand_read = operand_was b m next.at next.left read above
 
-      pub operand_read : NodesIn (next - 512 + 2) × WasRead (read_at b m (next - 512 + 2))
-      operand_read = (operand_in 2 (omega arith), rw operand_is (operand_was b m at left read.1 above))
+    pub modal_next : formula_read (read_at b m next) ≡ formula_read (read_at b m (record { at = next.at + 2; left = next.left - 1 }))
+    modal_next = one_operand b m next.at next.left (some_left b m next.at next.left read) one
 
-      pub modal_next : packed (read_at b m next) ≡ packed (read_at b m (next - 512 + 2))
-      modal_next = rw operand_is (one_operand b m at left (some_left b m at left read.1) one)
+    pub modal_value : (into : List ℕ) (n set : ℕ) → table_word into n (formula_of (read_at b m next)) set
+        ≡ modal_word into n (get_or b next.at 0) (get_or b (next.at + 1) 0) (table_word into n (formula_of (read_at b m (record { at = next.at + 2; left = next.left - 1 }))) set)
+    modal_value into n set = ap (value into n set) here ∙ rw one (one_value into n set operand node (get_or b (next.at + 1) 0) operand_read)
 
-      pub modal_value : (into : List ℕ) (n set : ℕ) → table_word into n (formula_of (read_at b m next)) set
-          ≡ modal_word into n (get_or b (next % 512) 0) (get_or b (next % 512 + 1) 0) (table_word into n (formula_of operand) set)
-      modal_value into n set = ap (value into n set) here ∙ rw (one, ← operand_is) (one_value into n set operand node (get_or b (at + 1) 0) operand_read.1)
+-- a formula by its first node: what it needs, what it gives, and what is unread after it
+pub ruleset formula_by_node = (node_inside, some_left, action_inside, action_known, word_below, leaf_next, leaf_value, first_read, operand_fewer, second_fewer, second_read, two_next, operand_read, modal_next)

@@ -13,7 +13,7 @@ use lib.Seq.{get_or-set_same, get_or-set_other}
 use Rattle.settle.specs.Test.{either}
 use Rattle.sheet.specs.Reading.{label_of}
 use Rattle.words.specs.Words.{member}
-use Rattle.words.proofs.Words.{word_lt, word_cong, word_none, word_member, word_of_lem, no_member, minus_member, none_member}
+use Rattle.words.proofs.Words.{word_small, word_lt, word_cong, word_none, word_member, word_of_lem, no_member, minus_member, none_member}
 use Rattle.steps.specs.Walk.{leads}
 use Rattle.steps.proofs.Leads.{leads_none, leads_either, leads_small}
 use Rattle.evaluate.specs.Evaluating.{row_of, step_word, Serves, memo_at, Remembers, SameRows, Kept}
@@ -118,3 +118,18 @@ module _ (n m : ℕ) (sheet work : List ℕ) (R : Remembers n m sheet work) (at 
             ]);
       },
     )
+
+-- the same of the step at a place, by its row
+module _ (n m : ℕ) (sheet work after : List ℕ) (R : Remembers n m sheet work) (at f w row : ℕ) (inside : at + 1 < length sheet) (f_small : f < 2 ^ n)
+    (row_is : row ≡ row_of (label_of (get_or sheet (at + 1) 0))) (gave : w ≡ step_word work n row f) (now : after ≡ set (set work (memo_at n m at) f) (memo_at n m at + 1) w) where
+  kept : Kept n m sheet work after
+  kept = rw now (remembers_more n m sheet work R at f w (omega arith) f_small (word_small n w _ gave) (rw row_is at gave))
+
+  pub remembers_after : Remembers n m sheet after
+  remembers_after = kept.1
+
+  pub rows_after : SameRows n m work after
+  rows_after = kept.0
+
+-- the step at a place, and what is remembered after it
+pub ruleset by_steps = (serves_row, remembers_after, rows_after)

@@ -1,9 +1,10 @@
 -- What the parts of the evaluator say of themselves. The promise of the question cites none of it.
-use Rattle.std.specs.Prelude.{ℕ, ◌+◌, ◌-◌, ◌*◌, ◌/◌, ◌%◌, ◌^◌, ◌≤◌, ◌<◌, ◌≡◌, List, ◌⊎◌, eqb, length, get_or}
+use Rattle.std.specs.Prelude.{ℕ, ◌+◌, ◌-◌, ◌*◌, ◌^◌, ◌≤◌, ◌<◌, ◌≡◌, List, ◌⊎◌, eqb, length, get_or}
 use Rattle.std.specs.Int.Bits.{bit_and, bit_or}
 use Rattle.settle.specs.Test.{pick}
 use Rattle.sheet.specs.Formula.{Label, only, every, Formula, variable, top, bottom, and, or, diamond, box}
 use Rattle.sheet.specs.Reading.{label_of, Parsed, parsed, wrong, parse}
+use Rattle.sheet.specs.declared.Unread.{Unread}
 use Rattle.words.specs.Words.{word_of}
 use Rattle.steps.specs.Walk.{leads}
 
@@ -64,13 +65,9 @@ Kept n m sheet old new = SameRows n m old new × Remembers n m sheet new
 
 -- ---- a formula that was read
 
--- what is read at a place, where the place and the nodes still unread are one number, as the reader packs them
-abbrev pub read_at : List ℕ → ℕ → ℕ → Parsed
-read_at sheet m next = parse (next / 512) sheet m (next % 512) (next / 512)
-
--- the nodes, of at most two bytes each, end by place 510, so that every place is below 512
-abbrev pub NodesIn : ℕ → Type 0
-NodesIn next = next % 512 + 2 * (next / 512) ≤ 510
+-- what is read where so much is unread
+abbrev pub read_at : List ℕ → ℕ → Unread → Parsed
+read_at sheet m next = parse next.left sheet m next.at next.left
 
 -- one that stands in an accepted sheet was read, and is not judged again
 abbrev pub WasRead : Parsed → Type 0

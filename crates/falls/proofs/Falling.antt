@@ -24,7 +24,7 @@ use Rattle.words.specs.Words.{member}
 use Rattle.words.proofs.Words.{none_member, others_member}
 use Rattle.steps.specs.Table.{Table, HasStep}
 use Rattle.steps.specs.Walk.{leads}
-use Rattle.steps.proofs.Bits.{and_member}
+use Rattle.words.proofs.Bits.{and_member}
 use Rattle.steps.proofs.Leads.{leads_i, leads_small}
 use Rattle.steps.proofs.Stepping.{member_below, has_step, lead_i, lead_e}
 use Rattle.nearness.specs.Relation.{Relation, matched, simulation_round, Simulating}

@@ -19,7 +19,7 @@ use Rattle.words.specs.Words.{member}
 use Rattle.words.proofs.Words.{none_member}
 use Rattle.steps.specs.Table.{Table}
 use Rattle.steps.specs.Walk.{leads}
-use Rattle.steps.proofs.Bits.{lowest_lt, lowest_in}
+use Rattle.words.proofs.Bits.{lowest_lt, lowest_in}
 use Rattle.nearness.specs.Relation.{Simulating}
 use Rattle.nearness.proofs.Rounds.{simulation_rounds_lem}
 use Rattle.relation.specs.Rows.{in_rows, Holds, Keeps}

@@ -20,7 +20,7 @@ use Rattle.chart.proofs.Accepted.{accepted, each_step}
 use Rattle.words.specs.Words.{member}
 use Rattle.words.proofs.Words.{none_member, all_word, word_member}
 use Rattle.steps.specs.Table.{ReadAs, Table, HasStep, turn}
-use Rattle.steps.proofs.Bits.{and_member, lowest_in}
+use Rattle.words.proofs.Bits.{and_member, lowest_in}
 use Rattle.steps.proofs.Stepping.{lead_i, lead_e}
 use Rattle.falls.specs.Round.{apart, keeps_step}
 

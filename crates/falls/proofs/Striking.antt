@@ -1,68 +1,41 @@
 -- What the parts of a round strike: from the rows of one action's sources, of all actions, of all states whose rows became smaller.
-use Prim.Native.Nat.{ℕ, ◌+◌, ◌-◌, ◌*◌, ◌^◌, ◌≤◌, ◌<◌}
-use mathlib.Core.Path.{◌≡◌, refl, sym, ap, ap₂, subst, ◌∙◌}
-use mathlib.Core.Bool.{Bool, true, false, So}
+use Prim.Native.Nat.{ℕ, ◌+◌, ◌-◌, ◌^◌, ◌≤◌, ◌<◌}
+use mathlib.Core.Path.{◌≡◌, refl, sym, ap, ap₂, ◌∙◌}
+use mathlib.Core.Bool.{Bool, true, false}
 use mathlib.Core.List.{List}
-use native.Mathlib.Omega.{arith}
-use native.Mathlib.Nat.{mul-le-mul_right}
 use native.Mathlib.Numerals.{add-one}
-use lib.Bits.{bit_and}
-use lib.Count.{count_trailing_zeros}
-use lib.ListN.{length, get_or}
-use Rattle.settle.specs.Test.{both, either, implies, neg, all_of, each}
+use lib.ListN.{get_or}
+use Rattle.settle.specs.Test.{both, implies, neg, all_of, each}
 use Rattle.settle.specs.Finite.{below}
 use Rattle.words.specs.Words.{member, word_of}
-use Rattle.words.proofs.Words.{none_member, word_of_lem, word_small, word_cong, word_member, others_word}
-use Rattle.steps.specs.Table.{Sized}
+use Rattle.words.specs.Members.{Lowest}
+use Rattle.words.proofs.Words.{no_member, none_member, word_ext, word_of_lem, word_small, word_cong, word_member, others_word}
 use Rattle.steps.specs.Walk.{leads}
-use Rattle.steps.proofs.Leads.{leads_small}
-use Rattle.steps.proofs.Stepping.{member_below}
 use Rattle.steps.proofs.Walked.{each_none, each_walked}
 use Rattle.relation.specs.Rows.{Within, Keeps, struck}
 use Rattle.relation.proofs.Keeping.{within_states, keeps_all, keeps_more, keeps_same, strike_keeps}
-use Rattle.falls.specs.Round.{RowAt, apart, fewer_left, keeps_step, survives, able_too}
-use Rattle.falls.proofs.Walks.{none_yet}
-
--- ---- places in the tables
-
-module _ {n m : ℕ} {into : List ℕ} (T : Sized n m into) where
-  -- the row of an action ends in the table
-  pub row_ends : (a : ℕ) → a < m → (a + 1) * n + n ≤ length into
-  row_ends a h = omega (arith, T.room, mul-le-mul_right {m = a + 1 + 1} {n = m + 1} n (omega arith))
-
-  pub row_at : (a : ℕ) → a < m → RowAt n ((a + 1) * n) into
-  row_at a h = record { room = row_ends a h; no_bit_above = T.no_bit_above }
-
--- each word of a row is in the table
-pub place_in : {n base : ℕ} {into : List ℕ} (w u : ℕ) → RowAt n base into → w < 2 ^ n → So (member w u) → base + u < length into
-place_in {n} w u R h i = omega (arith, R.room, member_below n w u h i)
+use Rattle.falls.specs.Round.{apart, keeps_step}
 
 -- ---- who keeps a step into a row
 
-pub gathered : (into : List ℕ) (base set r : ℕ) → ((s : ℕ) → member r s ≡ either (member 0 s) (leads into base set s)) → (s : ℕ) → member r s ≡ leads into base set s
-gathered into base set r is s = is s ∙ none_yet s _
+pub keeping_left : (n base : ℕ) (into out : List ℕ) (left gone r : ℕ) → r < 2 ^ n → ((s : ℕ) → member r s ≡ leads into base left s) → r ≡ word_of n (keeps_step true into out base left gone)
+unfolding keeps_step
+keeping_left n base into out left gone r small is = sym (word_ext n r small) ∙ word_cong n _ _ (λ x l. is x)
 
-module _ {n base : ℕ} {into : List ℕ} (few : n ≤ 64) (R : RowAt n base into) where
-  pub gathered_small : (set r : ℕ) → r < 2 ^ 64 → ((s : ℕ) → member r s ≡ either (member 0 s) (leads into base set s)) → r ≡ word_of n (leads into base set)
-  gathered_small set r h is = word_of_lem n r _ few h (gathered into base set r is) (λ x l. leads_small n into base set x R.no_bit_above l)
+module _ {n : ℕ} (few : n ≤ 64) (base : ℕ) (into out : List ℕ) (left gone c r : ℕ) (c_small : c < 2 ^ n) (c_is : (s : ℕ) → member c s ≡ leads into base gone s)
+    (r_is : (q : ℕ) → member r q ≡ both (member c q) (apart (get_or out (base + q) 0) left)) (fits : r < 2 ^ 64) where
+  lost_word : r ≡ word_of n (λ q. both (leads into base gone q) (apart (get_or out (base + q) 0) left))
+  unfolding both
+  lost_word =
+      word_of_lem n r _ few fits (λ x. r_is x ∙ ap (λ (b : Bool). both b (apart (get_or out (base + x) 0) left)) (c_is x))
+      (λ x l. ap (λ (b : Bool). both b (apart (get_or out (base + x) 0) left)) (sym (c_is x) ∙ no_member n c x c_small l))
 
-  pub keeping_left : (out : List ℕ) (row gone r : ℕ) → r < 2 ^ 64 → ((s : ℕ) → member r s ≡ either (member 0 s) (leads into base row s)) → r ≡ word_of n (keeps_step true into out base row gone)
+  pub lost_small : r < 2 ^ n
+  lost_small = word_small n r _ lost_word
+
+  pub keeping_fell : 2 ^ n - 1 - r ≡ word_of n (keeps_step false into out base left gone)
   unfolding keeps_step
-  keeping_left out row gone r h is = gathered_small row r h is ∙ word_cong n _ _ (λ x l. refl)
-
-  module _ (out : List ℕ) (row gone c r : ℕ) (c_is : (s : ℕ) → member c s ≡ either (member 0 s) (leads into base gone s)) (r_is : (q : ℕ) → member r q ≡ both (member c q) (apart (get_or out (base + q) 0) row)) (fits : r < 2 ^ 64) where
-    lost_word : r ≡ word_of n (λ q. both (leads into base gone q) (apart (get_or out (base + q) 0) row))
-    unfolding both
-    lost_word =
-        word_of_lem n r _ few fits (λ x. r_is x ∙ ap (λ (b : Bool). both b (apart (get_or out (base + x) 0) row)) (gathered into base gone c c_is x))
-        (λ x l. ap (λ (b : Bool). both b (apart (get_or out (base + x) 0) row)) (leads_small n into base gone x R.no_bit_above l))
-
-    pub lost_small : r < 2 ^ n
-    lost_small = word_small n r _ lost_word
-
-    pub keeping_fell : 2 ^ n - 1 - r ≡ word_of n (keeps_step false into out base row gone)
-    unfolding keeps_step
-    keeping_fell = others_word n r lost_small ∙ word_cong n _ _ (λ x l. ap neg (ap (λ (w : ℕ). member w x) lost_word ∙ word_member n x _ l))
+  keeping_fell = others_word n r lost_small ∙ word_cong n _ _ (λ x l. ap neg (ap (λ (w : ℕ). member w x) lost_word ∙ word_member n x _ l))
 
 -- ---- the rows of one action's sources
 
@@ -93,21 +66,6 @@ pub by_more : {n : ℕ} {old mid new : List ℕ} (P Q : ℕ → ℕ → Bool) (a
 unfolding each all_of below
 by_more P Q a k l = rw (add-one a) (keeps_more k l)
 
--- all actions are done, and the set was that of all states
-pub able_done : {n : ℕ} {old new : List ℕ} (into : List ℕ) (m all a : ℕ) → all ≡ 2 ^ n - 1 → a ≡ m
-    → ByFirst n (λ b. leads into ((b + 1) * n) all) (λ b. leads into ((b + 1) * n) all) a old new → Keeps n (able_too into n m) old new
-able_done {n} {old} {new} into m all a e f k =
-    subst (λ (w : ℕ). ByFirst n (λ b. leads into ((b + 1) * n) w) (λ b. leads into ((b + 1) * n) w) m old new) e
-    (subst (λ (d : ℕ). ByFirst n (λ b. leads into ((b + 1) * n) all) (λ b. leads into ((b + 1) * n) all) d old new) f k)
-
--- all actions are done, and the shorter walk was taken
-pub survives_done : {n : ℕ} {old new : List ℕ} (into out : List ℕ) (m x row gone : ℕ) (by_left : Bool) (a : ℕ) → by_left ≡ fewer_left row gone → a ≡ m
-    → ByFirst n (λ b. member (get_or into ((b + 1) * n + x) 0)) (λ b. keeps_step by_left into out ((b + 1) * n) row gone) a old new
-    → Keeps n (survives into out n m x row gone) old new
-survives_done {n} {old} {new} into out m x row gone by_left a e f k =
-    subst (λ (s : Bool). ByFirst n (λ b. member (get_or into ((b + 1) * n + x) 0)) (λ b. keeps_step s into out ((b + 1) * n) row gone) m old new) e
-    (subst (λ (d : ℕ). ByFirst n (λ b. member (get_or into ((b + 1) * n + x) 0)) (λ b. keeps_step by_left into out ((b + 1) * n) row gone) d old new) f k)
-
 -- ---- of all states whose rows became smaller
 
 both_turned : (a b : Bool) → both a b ≡ both b a
@@ -121,9 +79,8 @@ both_turned false false = refl
 abbrev pub ByMembers : ℕ → (ℕ → ℕ → ℕ → Bool) → ℕ → List ℕ → List ℕ → Type 0
 ByMembers n f w = Keeps n (λ p q. each (member w) (λ x. f x p q) (below 64))
 
-pub members_none : {n : ℕ} {rows : List ℕ} (f : ℕ → ℕ → ℕ → Bool) → Within n rows → ByMembers n f 0 rows rows
-members_none f w = keeps_same (λ p q i. sym (each_none (λ x. f x p q))) (keeps_all w)
+pub members_done : {n : ℕ} {rows : List ℕ} (f : ℕ → ℕ → ℕ → Bool) {left : ℕ} → left ≡ 0 → Within n rows → ByMembers n f left rows rows
+members_done f e w = keeps_same (λ p q i. sym (rw e (each_none (λ x. f x p q)))) (keeps_all w)
 
-pub members_more : {n : ℕ} {old mid new : List ℕ} (f : ℕ → ℕ → ℕ → Bool) (w : ℕ) → 0 < w → w < 2 ^ 64 → Keeps n (f (count_trailing_zeros 64 w)) old mid
-    → ByMembers n f (bit_and w (w - 1)) mid new → ByMembers n f w old new
-members_more f w some few k l = keeps_same (λ p q i. both_turned _ _ ∙ sym (each_walked (λ x. f x p q) w some few)) (keeps_more k l)
+pub members_more : {n w x rest : ℕ} {old mid new : List ℕ} (f : ℕ → ℕ → ℕ → Bool) → Lowest w x rest → Keeps n (f x) old mid → ByMembers n f rest mid new → ByMembers n f w old new
+members_more f h k l = keeps_same (λ p q i. both_turned _ _ ∙ sym (each_walked (λ x. f x p q) h)) (keeps_more k l)

@@ -1,5 +1,5 @@
 -- A round of simulation on words, bit by bit. `into` is the table of the steps and `out` that of the steps turned back, n words a row.
-use Rattle.std.specs.Prelude.{ℕ, ◌+◌, ◌-◌, ◌*◌, ◌^◌, ◌≤◌, ◌<◌, ◌≡◌, Bool, true, false, List, eqb, leb, length, get_or}
+use Rattle.std.specs.Prelude.{ℕ, ◌+◌, ◌-◌, ◌*◌, ◌^◌, ◌<◌, ◌≡◌, Bool, true, false, List, eqb, leb, get_or}
 use Rattle.std.proofs.Math.Bool.{So}
 use Rattle.std.specs.Int.Bits.{bit_and}
 use Rattle.std.specs.Int.Count.{ones}
@@ -7,13 +7,6 @@ use Rattle.settle.specs.Test.{pick, both, neg, each}
 use Rattle.settle.specs.Finite.{below}
 use Rattle.words.specs.Words.{member}
 use Rattle.steps.specs.Walk.{leads}
-
--- ---- the tables
-
--- a row of n words begins at base, none with a bit at n or above
-pub record RowAt (n base : ℕ) (into : List ℕ) : Type 0 where
-  pub room : base + n ≤ length into
-  pub no_bit_above : (e : ℕ) → get_or into e 0 < 2 ^ n
 
 -- ---- who keeps a step into a row
 

@@ -24,13 +24,13 @@ use Rattle.solve.specs.declared.Solved.{Solved}
 use Rattle.property.specs.Promise.{Solution}
 use Rattle.both_solutions.specs.Promise.{BothSolved, BothPromise}
 use Rattle.both_solutions.specs.declared.Solutions.{Solutions}
-use Rattle.both_solutions.specs.declared.BothAnswer.{BothAnswer}
-use Rattle.both_solutions.specs.declared.BothAnswer.TheVariants.{Both, Refused}
 use Rattle.both_solutions.proofs.Promise.{neither_unsettled}
 use Rattle.idle.specs.Slice.{Slice}
 use Rattle.idle.specs.BothSolutions.{Build, Meets, RefusesEverything, SameAlways, CopiesFirstRound, InventsRounds, GreatestFirst, OwnTwice, NotIdle}
 use Rattle.idle.proofs.Slice.{are_bytes, l}
 use Rattle.idle.proofs.Property.{c, f, read_least, least, Board, of_sheet, board_least, board_greatest, once}
+use Rattle.std.specs.Prelude.{Result, Ok, Err}
+use Rattle.refusal.specs.declared.Refusal.{Refusal}
 
 -- ---- the other formula
 
@@ -67,9 +67,9 @@ once_from_all = refl
 
 -- ---- the law
 
-answered : (s : List ℕ) (h : Formula) → read_sheet s 1 ≡ sheet 1 5 h → (answer : BothAnswer) → BothPromise chart_l s answer → (a : Solutions) × (answer ≡ Both a) × BothSolved c h a
-answered s h e (Both a) w = (a, refl, w.both_accepted shape_l 1 5 h read_l e)
-answered s h e (Refused r) w = absurd (neither_unsettled chart_l shape_l read_l 1 h r (w.both_accepted shape_l 1 5 h read_l e))
+answered : (s : List ℕ) (h : Formula) → read_sheet s 1 ≡ sheet 1 5 h → (answer : Result Solutions Refusal) → BothPromise chart_l s answer → (a : Solutions) × (answer ≡ Ok a) × BothSolved c h a
+answered s h e (Ok a) w = (a, refl, w.both_accepted shape_l 1 5 h read_l e)
+answered s h e (Err r) w = absurd (neither_unsettled chart_l shape_l read_l 1 h r (w.both_accepted shape_l 1 5 h read_l e))
 
 -- where state 1 is in a solution of one formula, and not in that of the other, the words differ
 words_differ : (kind : ℕ) (v w : Solved) → Solution c kind f v → Solution c kind g w → Satisfies c kind f 1 → (Satisfies c kind g 1 → ⊥) → v.word ≡ w.word → ⊥
@@ -77,10 +77,10 @@ unfolding chart_l bytes_at
 words_differ kind v w A B has lacks e = lacks ((B.bit_exactly 1 (omega arith)).0 (subst (λ (x : ℕ). So (member x 1)) e ((A.bit_exactly 1 (omega arith)).1 has)))
 
 module _ (b : Build) (meets : Meets b) where
-  by_or : (a : Solutions) × (b l least ≡ Both a) × BothSolved c f a
+  by_or : (a : Solutions) × (b l least ≡ Ok a) × BothSolved c f a
   by_or = answered (sheet_or 1) f read_least (b l least) (meets l least)
 
-  by_and : (a : Solutions) × (b l other ≡ Both a) × BothSolved c g a
+  by_and : (a : Solutions) × (b l other ≡ Ok a) × BothSolved c g a
   by_and = answered (sheet_and 1) g read_and (b l other) (meets l other)
 
   refusing : RefusesEverything b → ⊥

@@ -11,25 +11,11 @@ use Rattle.refusal.specs.declared.Input.{Input}
 use Rattle.refusal.specs.declared.Refusal.{Refusal}
 use Rattle.nearness.specs.Relation.{Near, Simulating}
 use Rattle.relation.specs.Promise.{Saying, Relations, MatrixPromise}
-use Rattle.relation.specs.declared.MatrixAnswer.{MatrixAnswer}
-use Rattle.relation.specs.declared.MatrixAnswer.TheVariants as Matrices
 use Rattle.equal.specs.Promise.{RowsPromise, PairsPromise}
-use Rattle.equal.specs.declared.EqualAnswer.{EqualAnswer}
-use Rattle.equal.specs.declared.EqualAnswer.TheVariants as Equal
 use Rattle.property.specs.Promise.{PropertyPromise}
-use Rattle.solve.specs.declared.PropertyAnswer.{PropertyAnswer}
-use Rattle.solve.specs.declared.PropertyAnswer.TheVariants as Property
 use Rattle.both_solutions.specs.Promise.{BothPromise}
-use Rattle.both_solutions.specs.declared.BothAnswer.{BothAnswer}
-use Rattle.both_solutions.specs.declared.BothAnswer.TheVariants as Both
-use Rattle.lent.specs.declared.LentAnswer.{LentAnswer}
-use Rattle.lent.specs.declared.LentAnswer.TheVariants as Form
 use Rattle.check_reasons.specs.Promise.{CheckPromise}
-use Rattle.check_reasons.specs.declared.CheckAnswer.{CheckAnswer}
-use Rattle.check_reasons.specs.declared.CheckAnswer.TheVariants as Checking
 use Rattle.compare.specs.Promise.{ComparePromise}
-use Rattle.compare.specs.declared.CompareAnswer.{CompareAnswer}
-use Rattle.compare.specs.declared.CompareAnswer.TheVariants as Comparing
 use Rattle.calls.specs.Packing.{packed}
 use Rattle.calls.specs.Shown.{lent, matrix_code, matrix_states, matrix_rounds, equal_code, counted_left, EqualShown, property_code, word_left, count_left, rounds_left, both_code, least_left, greatest_left, written_code, written_left, check_code, lines_left, compare_code, compare_written, compare_rounds, MatrixShown, MarksShown, SimulationShown, PropertyShown, BothShown, WrittenShown, CheckShown, CompareShown}
 use Rattle.calls.proofs.Three.{three_numbers}
@@ -58,6 +44,11 @@ use Rattle.idle.proofs.ShortForm.{short_form_not_idle}
 use Rattle.idle.proofs.Reasons.{reasons_not_idle}
 use Rattle.idle.proofs.CheckReasons.{check_not_idle}
 use Rattle.idle.proofs.Compare.{compare_not_idle}
+use Rattle.std.specs.Prelude.{Result, Ok, Err}
+use Rattle.both_solutions.specs.declared.Solutions.{Solutions}
+use Rattle.compare.specs.declared.Comparison.{Comparison}
+use Rattle.relation.specs.declared.Matrix.{Matrix}
+use Rattle.solve.specs.declared.Solved.{Solved}
 
 -- ---- a refusal is read back from its code
 
@@ -90,10 +81,10 @@ module _ {Says : Saying} {R : Relations} (chart old : List ℕ) (states rounds :
   matrix_promised : MatrixShown (MatrixPromise Says R) chart old x.bytes (lent states x.states) (lent rounds x.rounds) x.code → MatrixPromise Says R chart old x.bytes (matrix_read x)
   matrix_promised s = go s.answer s.promised s.code_is s.states_is s.rounds_is
     where
-      go : (a : MatrixAnswer) → MatrixPromise Says R chart old x.bytes a → x.code ≡ matrix_code a → x.states ≡ matrix_states states a → x.rounds ≡ matrix_rounds rounds a
+      go : (a : Result Matrix Refusal) → MatrixPromise Says R chart old x.bytes a → x.code ≡ matrix_code a → x.states ≡ matrix_states states a → x.rounds ≡ matrix_rounds rounds a
           → MatrixPromise Says R chart old x.bytes (matrix_read x)
-      go (Matrices.Given g) p c e f = read_given (MatrixPromise Says R chart old x.bytes) Matrices.Refused _ x.code c (rw (e, f) p)
-      go (Matrices.Refused r) p c e f = read_refused (MatrixPromise Says R chart old x.bytes) Matrices.Refused _ x.code r (matrix_packable chart old x.bytes r p) c p
+      go (Ok g) p c e f = read_given (MatrixPromise Says R chart old x.bytes) Err _ x.code c (rw (e, f) p)
+      go (Err r) p c e f = read_refused (MatrixPromise Says R chart old x.bytes) Err _ x.code r (matrix_packable chart old x.bytes r p) c p
 
 module _ (states rounds : ℕ) (call : Slice → Slice → MatrixLeft) where
   pub marks_call_not_idle : MeetsMatrix MarksShown states rounds call → Matrix.NotIdle Near 0 1 (matrix_build call)
@@ -105,12 +96,12 @@ module _ (states rounds : ℕ) (call : Slice → Slice → MatrixLeft) where
 -- ---- equal rows and equal pairs
 
 -- where every refusal that the question promises can be packed
-equal_promised : (Promise : EqualAnswer → Type 0) → ((r : Refusal) → Promise (Equal.Refused r) → Packable r) → (counted : ℕ) (x : EqualLeft) → EqualShown Promise (lent counted x.counted) x.code → Promise (equal_read x)
+equal_promised : (Promise : Result ℕ Refusal → Type 0) → ((r : Refusal) → Promise (Err r) → Packable r) → (counted : ℕ) (x : EqualLeft) → EqualShown Promise (lent counted x.counted) x.code → Promise (equal_read x)
 equal_promised Promise packable counted x s = go s.answer s.promised s.code_is s.counted_is
   where
-    go : (a : EqualAnswer) → Promise a → x.code ≡ equal_code a → x.counted ≡ counted_left counted a → Promise (equal_read x)
-    go (Equal.Counted count) p c e = read_given Promise Equal.Refused _ x.code c (rw e p)
-    go (Equal.Refused r) p c e = read_refused Promise Equal.Refused _ x.code r (packable r p) c p
+    go : (a : Result ℕ Refusal) → Promise a → x.code ≡ equal_code a → x.counted ≡ counted_left counted a → Promise (equal_read x)
+    go (Ok count) p c e = read_given Promise Err _ x.code c (rw e p)
+    go (Err r) p c e = read_refused Promise Err _ x.code r (packable r p) c p
 
 pub equal_rows_call_not_idle : (states : ℕ) (call : Slice → Rows.Words → EqualLeft) → MeetsRows states call → Rows.NotIdle (rows_build call)
 equal_rows_call_not_idle states call s =
@@ -126,10 +117,10 @@ property_promised : (chart sheet : List ℕ) (word count rounds : ℕ) (x : Prop
     → PropertyShown chart sheet (lent word x.word) (lent count x.count) (lent rounds x.rounds) x.code → PropertyPromise chart sheet (property_read x)
 property_promised chart sheet word count rounds x s = go s.answer s.promised s.code_is s.word_is s.count_is s.rounds_is
   where
-    go : (a : PropertyAnswer) → PropertyPromise chart sheet a → x.code ≡ property_code a → x.word ≡ word_left word a → x.count ≡ count_left count a → x.rounds ≡ rounds_left rounds a
+    go : (a : Result Solved Refusal) → PropertyPromise chart sheet a → x.code ≡ property_code a → x.word ≡ word_left word a → x.count ≡ count_left count a → x.rounds ≡ rounds_left rounds a
         → PropertyPromise chart sheet (property_read x)
-    go (Property.Satisfied a) p c e f g = read_given (PropertyPromise chart sheet) Property.Refused _ x.code c (rw (e, f, g) p)
-    go (Property.Refused r) p c e f g = read_refused (PropertyPromise chart sheet) Property.Refused _ x.code r (property_packable chart sheet r p) c p
+    go (Ok a) p c e f g = read_given (PropertyPromise chart sheet) Err _ x.code c (rw (e, f, g) p)
+    go (Err r) p c e f g = read_refused (PropertyPromise chart sheet) Err _ x.code r (property_packable chart sheet r p) c p
 
 pub property_call_not_idle : (word count rounds : ℕ) (call : Slice → Slice → PropertyLeft) → MeetsProperty word count rounds call → Properties.NotIdle (property_build call)
 property_call_not_idle word count rounds call s =
@@ -141,9 +132,9 @@ both_promised : (chart sheet least greatest : List ℕ) → length least ≡ 3 �
     → BothShown chart sheet least x.least greatest x.greatest x.code → BothPromise chart sheet (both_read x)
 both_promised chart sheet least greatest three also x s = go s.answer s.promised s.code_is s.least_is s.greatest_is
   where
-    go : (a : BothAnswer) → BothPromise chart sheet a → x.code ≡ both_code a → x.least ≡ least_left least a → x.greatest ≡ greatest_left greatest a → BothPromise chart sheet (both_read x)
-    go (Both.Both a) p c e f = read_given (BothPromise chart sheet) Both.Refused _ x.code c (rw (e ∙ three_numbers least three a.least, f ∙ three_numbers greatest also a.greatest) p)
-    go (Both.Refused r) p c e f = read_refused (BothPromise chart sheet) Both.Refused _ x.code r (both_packable chart sheet r p) c p
+    go : (a : Result Solutions Refusal) → BothPromise chart sheet a → x.code ≡ both_code a → x.least ≡ least_left least a → x.greatest ≡ greatest_left greatest a → BothPromise chart sheet (both_read x)
+    go (Ok a) p c e f = read_given (BothPromise chart sheet) Err _ x.code c (rw (e ∙ three_numbers least three a.least, f ∙ three_numbers greatest also a.greatest) p)
+    go (Err r) p c e f = read_refused (BothPromise chart sheet) Err _ x.code r (both_packable chart sheet r p) c p
 
 pub both_call_not_idle : (least greatest : List ℕ) → length least ≡ 3 → length greatest ≡ 3 → (call : Slice → Slice → BothLeft) → MeetsBoth least greatest call → Boths.NotIdle (both_build call)
 both_call_not_idle least greatest three also call s = both_not_idle (both_build call) (λ chart sheet. both_promised chart.0 sheet.0 least greatest three also (call chart sheet) (s chart sheet))
@@ -151,13 +142,13 @@ both_call_not_idle least greatest three also call s = both_not_idle (both_build 
 -- ---- short form and reasons
 
 -- where every refusal that the question promises can be packed
-written_promised : {Promise : List ℕ → List ℕ → LentAnswer → Type 0} → ((old new : List ℕ) (r : Refusal) → Promise old new (Form.Refused r) → Packable r)
+written_promised : {Promise : List ℕ → List ℕ → Result ℕ Refusal → Type 0} → ((old new : List ℕ) (r : Refusal) → Promise old new (Err r) → Packable r)
     → (old : List ℕ) (written : ℕ) (x : WrittenLeft) → WrittenShown Promise old x.bytes (lent written x.written) x.code → Promise old x.bytes (written_read x)
 written_promised {Promise} packable old written x s = go s.answer s.promised s.code_is s.written_is
   where
-    go : (a : LentAnswer) → Promise old x.bytes a → x.code ≡ written_code a → x.written ≡ written_left written a → Promise old x.bytes (written_read x)
-    go (Form.Written length) p c e = read_given (Promise old x.bytes) Form.Refused _ x.code c (rw e p)
-    go (Form.Refused r) p c e = read_refused (Promise old x.bytes) Form.Refused _ x.code r (packable old x.bytes r p) c p
+    go : (a : Result ℕ Refusal) → Promise old x.bytes a → x.code ≡ written_code a → x.written ≡ written_left written a → Promise old x.bytes (written_read x)
+    go (Ok length) p c e = read_given (Promise old x.bytes) Err _ x.code c (rw e p)
+    go (Err r) p c e = read_refused (Promise old x.bytes) Err _ x.code r (packable old x.bytes r p) c p
 
 pub short_form_call_not_idle : (written : ℕ) (call : Asked → Slice → WrittenLeft) → MeetsWritten ShortForms.Promise written call → Written.NotIdle (written_build call)
 short_form_call_not_idle written call s =
@@ -172,9 +163,9 @@ reasons_call_not_idle written call s =
 check_promised : (chart list : List ℕ) (lines : ℕ) (x : CheckLeft) → CheckShown chart list (lent lines x.lines) x.code → CheckPromise chart list (check_read x)
 check_promised chart list lines x s = go s.answer s.promised s.code_is s.lines_is
   where
-    go : (a : CheckAnswer) → CheckPromise chart list a → x.code ≡ check_code a → x.lines ≡ lines_left lines a → CheckPromise chart list (check_read x)
-    go (Checking.Accepted count) p c e = read_given (CheckPromise chart list) Checking.Refused _ x.code c (rw e p)
-    go (Checking.Refused r) p c e = read_refused (CheckPromise chart list) Checking.Refused _ x.code r (check_packable chart list r p) c p
+    go : (a : Result ℕ Refusal) → CheckPromise chart list a → x.code ≡ check_code a → x.lines ≡ lines_left lines a → CheckPromise chart list (check_read x)
+    go (Ok count) p c e = read_given (CheckPromise chart list) Err _ x.code c (rw e p)
+    go (Err r) p c e = read_refused (CheckPromise chart list) Err _ x.code r (check_packable chart list r p) c p
 
 pub check_call_not_idle : (lines : ℕ) (call : Slice → Slice → CheckLeft) → MeetsCheck lines call → Checks.NotIdle (check_build call)
 check_call_not_idle lines call s = check_not_idle (check_build call) (λ chart list. check_promised chart.0 list.0 lines (call chart list) (s chart list))
@@ -185,10 +176,10 @@ compare_promised : (first second old : List ℕ) (written rounds : ℕ) (x : Com
     → CompareShown first second old x.bytes (lent written x.written) (lent rounds x.rounds) x.code → ComparePromise first second old x.bytes (compare_read x)
 compare_promised first second old written rounds x s = go s.answer s.promised s.code_is s.written_is s.rounds_is
   where
-    go : (a : CompareAnswer) → ComparePromise first second old x.bytes a → x.code ≡ compare_code a → x.written ≡ compare_written written a → x.rounds ≡ compare_rounds rounds a
+    go : (a : Result Comparison Refusal) → ComparePromise first second old x.bytes a → x.code ≡ compare_code a → x.written ≡ compare_written written a → x.rounds ≡ compare_rounds rounds a
         → ComparePromise first second old x.bytes (compare_read x)
-    go (Comparing.Compared a) p c e f = read_given (ComparePromise first second old x.bytes) Comparing.Refused _ x.code c (rw (e, f) p)
-    go (Comparing.Refused r) p c e f = read_refused (ComparePromise first second old x.bytes) Comparing.Refused _ x.code r (compare_packable first second old x.bytes r p) c p
+    go (Ok a) p c e f = read_given (ComparePromise first second old x.bytes) Err _ x.code c (rw (e, f) p)
+    go (Err r) p c e f = read_refused (ComparePromise first second old x.bytes) Err _ x.code r (compare_packable first second old x.bytes r p) c p
 
 pub compare_call_not_idle : (written rounds : ℕ) (call : Slice → Slice → Slice → CompareLeft) → MeetsCompare written rounds call → Compare.NotIdle (compare_build call)
 compare_call_not_idle written rounds call s =

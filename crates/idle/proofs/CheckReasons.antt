@@ -14,12 +14,12 @@ use Rattle.sheet.specs.Meaning.{leaves}
 use Rattle.reason.specs.Line.{lines_in, answers}
 use Rattle.reason.specs.Good.{Good}
 use Rattle.check_reasons.specs.Promise.{Judges, CheckPromise}
-use Rattle.check_reasons.specs.declared.CheckAnswer.{CheckAnswer}
-use Rattle.check_reasons.specs.declared.CheckAnswer.TheVariants.{Accepted, Refused}
 use Rattle.idle.specs.Slice.{Slice}
 use Rattle.idle.specs.CheckReasons.{Build, Meets, RefusesEverything, AcceptsEverything, CountsOnly, ListOnly, NotIdle}
 use Rattle.idle.proofs.Slice.{are_bytes}
 use Rattle.idle.proofs.Reasons.{two, one, loops, read_two_lem, steps_two, read_one, steps_one}
+use Rattle.std.specs.Prelude.{Result, Ok, Err}
+use Rattle.refusal.specs.declared.Refusal.{Refusal}
 
 -- ---- the lists
 
@@ -48,25 +48,25 @@ bytes_incomplete = are_bytes (0 ∷ []) refl
 -- ---- what the promise says of them
 
 -- of the state that steps to itself beside one at rest, and of one state alone
-on_two : (list : List ℕ) (answer : CheckAnswer) → CheckPromise two.0 list answer → Judges 2 loops list answer
+on_two : (list : List ℕ) (answer : Result ℕ Refusal) → CheckPromise two.0 list answer → Judges 2 loops list answer
 on_two list answer p = subst (λ (s : List Step). Judges 2 s list answer) steps_two (rw read_two_lem at p)
 
-on_one : (list : List ℕ) (answer : CheckAnswer) → CheckPromise one.0 list answer → Judges 1 [] list answer
+on_one : (list : List ℕ) (answer : Result ℕ Refusal) → CheckPromise one.0 list answer → Judges 1 [] list answer
 on_one list answer p = subst (λ (s : List Step). Judges 1 s list answer) steps_one (rw read_one at p)
 
-good_accepted : (answer : CheckAnswer) → Judges 2 loops list_good answer → (lines : ℕ) × (answer ≡ Accepted lines)
+good_accepted : (answer : Result ℕ Refusal) → Judges 2 loops list_good answer → (lines : ℕ) × (answer ≡ Ok lines)
 unfolding list_good lines_in answers leaves both
-good_accepted (Accepted lines) j = (lines, refl)
-good_accepted (Refused r) (zero, e, b) = absurd (b.bad (omega arith) (record { p_in = omega arith; q_in = omega arith; moves = here refl; rests = λ x m. absurd (not-nil m); new = λ k. not-nil k.1 }))
-good_accepted (Refused r) (suc i, e, b) = absurd (omega (arith, b.begun))
+good_accepted (Ok lines) j = (lines, refl)
+good_accepted (Err r) (zero, e, b) = absurd (b.bad (omega arith) (record { p_in = omega arith; q_in = omega arith; moves = here refl; rests = λ x m. absurd (not-nil m); new = λ k. not-nil k.1 }))
+good_accepted (Err r) (suc i, e, b) = absurd (omega (arith, b.begun))
 
-bad_refused : (lines : ℕ) → Judges 2 loops list_bad (Accepted lines) → ⊥
+bad_refused : (lines : ℕ) → Judges 2 loops list_bad (Ok lines) → ⊥
 unfolding list_bad lines_in Good
 bad_refused zero a = omega (arith, a.whole)
 bad_refused (suc zero) a = let e = only_one a.good.1.moves in omega (arith, ap (λ (x : Step). x.target) e)
 bad_refused (suc (suc k)) a = omega (arith, a.whole)
 
-alone_refused : (lines : ℕ) → Judges 1 [] list_good (Accepted lines) → ⊥
+alone_refused : (lines : ℕ) → Judges 1 [] list_good (Ok lines) → ⊥
 unfolding list_good lines_in Good
 alone_refused zero a = omega (arith, a.whole)
 alone_refused (suc zero) a = omega (arith, a.good.1.q_in)
@@ -81,7 +81,7 @@ module _ (b : Build) (meets : Meets b) where
   abbrev bad : Slice
   bad = (list_bad, bytes_bad)
 
-  accepted : (lines : ℕ) × (b two good ≡ Accepted lines)
+  accepted : (lines : ℕ) × (b two good ≡ Ok lines)
   accepted = good_accepted (b two good) (on_two list_good (b two good) (meets two good))
 
   refusing : RefusesEverything b → ⊥

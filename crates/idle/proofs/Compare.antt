@@ -29,7 +29,6 @@ use Rattle.beside.proofs.Reading.{two_read, first_formed, second_formed}
 use Rattle.lent.specs.Lent.{writes, answer_of, bytes_of}
 use Rattle.compare.specs.Comparison.{listed, Comparison}
 use Rattle.compare.specs.Promise.{with_rounds}
-use Rattle.compare.specs.declared.CompareAnswer.TheVariants.{Compared}
 use Rattle.compare.proofs.Compared.{all_alone, comparison_by}
 use Rattle.compare.proofs.Promise.{promised}
 use Rattle.compare.proofs.Determined.{not_compared, compare_determined}
@@ -37,6 +36,7 @@ use Rattle.idle.specs.Slice.{Slice}
 use Rattle.idle.specs.Compare.{Build, Meets, RefusesEverything, WhereAnswered, SameAlways, LeavesUnwritten, near_once, CopiesFirstMark, with_none, CopiesFirstLists, InventsRounds, NotIdle}
 use Rattle.idle.proofs.Slice.{are_bytes, lent}
 use Rattle.idle.proofs.Written.{filled}
+use Rattle.std.specs.Prelude.{Ok}
 
 -- ---- the charts
 
@@ -135,7 +135,7 @@ module _ (b : Build) (meets : Meets b) where
     abbrev list : List ℕ
     list = listed mark xs ys
 
-    answered : ((b first second lent).0 ≡ Compared (record { written = length list; rounds = rounds })) × (take (length list) (b first second lent).1 ≡ list)
+    answered : ((b first second lent).0 ≡ Ok (record { written = length list; rounds = rounds })) × (take (length list) (b first second lent).1 ≡ list)
     answered =
         let p = promised first.0 second.0 lent.0 (bytes_of lent.0 (writes list)) (with_rounds rounds (answer_of lent.0 (writes list))) read (record { mark = mark; first = xs; second = ys; rounds = rounds; comparison = comparison; answered = refl; bytes = refl }) in
         let e = compare_determined first.0 second.0 lent.0 _ _ _ _ (meets first second lent) p in

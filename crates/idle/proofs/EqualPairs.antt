@@ -16,12 +16,12 @@ use Rattle.nearness.proofs.Bisimulation.{bisimilar_iff}
 use Rattle.starred.specs.Boards.{chart_e}
 use Rattle.starred.proofs.Boards.{shape_e, read_e}
 use Rattle.equal.specs.Promise.{TellsEqual, PairsPromise}
-use Rattle.equal.specs.declared.EqualAnswer.TheVariants.{Counted}
 use Rattle.equal.proofs.Promise.{at_least_n}
 use Rattle.idle.specs.EqualPairs.{Build, Meets, RefusesEverything, SameAlways, CopiesFirstRound, FewerThanStates, WithoutItself, NotIdle}
 use Rattle.idle.proofs.Slice.{e}
 use Rattle.idle.proofs.Matrix.{steps_e, resting_bytes, shape_at_rest, read_at_rest}
 use Rattle.idle.proofs.Marks.{board, at_rest}
+use Rattle.std.specs.Prelude.{Ok}
 
 -- ---- the numbers
 
@@ -43,12 +43,12 @@ pairs_rest = refl
 -- ---- the law
 
 module _ (b : Build) (meets : Meets b) where
-  on_e : b e ≡ Counted 6
-  on_e = let a = (meets e).then_answered shape_e read_e in subst (λ (x : ℕ). b e ≡ Counted x) (a.2 _ tells_e ∙ pairs_e.1) a.1
+  on_e : b e ≡ Ok 6
+  on_e = let a = (meets e).then_answered shape_e read_e in subst (λ (x : ℕ). b e ≡ Ok x) (a.2 _ tells_e ∙ pairs_e.1) a.1
 
-  on_rest : b resting_bytes ≡ Counted 36
+  on_rest : b resting_bytes ≡ Ok 36
   unfolding steps_at
-  on_rest = let a = (meets resting_bytes).then_answered shape_at_rest read_at_rest in subst (λ (x : ℕ). b resting_bytes ≡ Counted x) (a.2 _ tells_rest ∙ pairs_rest) a.1
+  on_rest = let a = (meets resting_bytes).then_answered shape_at_rest read_at_rest in subst (λ (x : ℕ). b resting_bytes ≡ Ok x) (a.2 _ tells_rest ∙ pairs_rest) a.1
 
   refusing : RefusesEverything b → ⊥
   refusing f = let z : ◌≡◌ {A = ℕ} 0 1 = cc ((f e).1, on_e) in omega arith

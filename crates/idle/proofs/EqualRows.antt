@@ -13,12 +13,12 @@ use Rattle.chart.specs.Reading.{steps_at}
 use Rattle.nearness.specs.Bisimulation.{Bisimilar}
 use Rattle.starred.proofs.Boards.{shape_e, read_e}
 use Rattle.relation.specs.Rows.{in_rows}
-use Rattle.equal.specs.declared.EqualAnswer.TheVariants.{Counted}
 use Rattle.idle.specs.EqualRows.{Words, Build, Meets, RefusesEverything, SameAlways, LeavesUnwritten, CopiesFirstRound, NotIdle}
 use Rattle.idle.proofs.Slice.{e}
 use Rattle.idle.proofs.Matrix.{steps_e, resting_bytes, shape_at_rest, read_at_rest}
 use Rattle.idle.proofs.Marks.{at_rest, first}
 use Rattle.idle.proofs.Simulation.{board}
+use Rattle.std.specs.Prelude.{Ok}
 
 are_words : (x : ℕ) → Mem x (replicate 64 7) → x < 2 ^ 64
 unfolding all_of both
@@ -32,10 +32,10 @@ differ : Bisimilar steps_e 0 1 → ⊥
 differ (R, s, h) = board (R, s.0, h)
 
 module _ (b : Build) (meets : Meets b) where
-  on_e : ((b e lent).0 ≡ Counted 6) × (So (in_rows (b e lent).1 0 1) → ⊥)
+  on_e : ((b e lent).0 ≡ Ok 6) × (So (in_rows (b e lent).1 0 1) → ⊥)
   on_e = let a = (meets e lent).then_answered shape_e read_e in (a.0, λ t. differ ((a.1.bit_exactly 0 1 (omega arith) (omega arith)).0 t).2)
 
-  on_rest : ((b resting_bytes lent).0 ≡ Counted 6) × So (in_rows (b resting_bytes lent).1 0 1)
+  on_rest : ((b resting_bytes lent).0 ≡ Ok 6) × So (in_rows (b resting_bytes lent).1 0 1)
   unfolding steps_at
   on_rest = let a = (meets resting_bytes lent).then_answered shape_at_rest read_at_rest in (a.0, (a.1.bit_exactly 0 1 (omega arith) (omega arith)).1 (omega arith, omega arith, at_rest 0 1))
 

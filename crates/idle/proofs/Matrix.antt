@@ -11,16 +11,15 @@ use Rattle.chart.specs.Chart.{Step}
 use Rattle.chart.specs.Layout.{Bytes}
 use Rattle.chart.specs.Reading.{read_chart, read_actions, read_transitions, judge_codes, judge_triples, steps_at, chart_in}
 use Rattle.chart.specs.declared.Shape.{Shape}
-use Rattle.chart.specs.declared.ChartRead.TheVariants as Read
 use Rattle.starred.specs.Boards.{chart_e}
 use Rattle.starred.proofs.Boards.{shape_e, read_e}
 use Rattle.relation.specs.Promise.{byte_at, Saying, Relations, MatrixPromise, AlwaysAnswered}
 use Rattle.relation.specs.declared.Matrix.{Matrix}
-use Rattle.relation.specs.declared.MatrixAnswer.{MatrixAnswer}
-use Rattle.relation.specs.declared.MatrixAnswer.TheVariants.{Given, Refused}
 use Rattle.idle.specs.Slice.{Slice}
 use Rattle.idle.specs.Matrix.{Build, Meets, RefusesEverything, SameAlways, LeavesUnwritten, CopiesFirstRound, InventsRounds, NotIdle}
 use Rattle.idle.proofs.Slice.{are_bytes, e, lent}
+use Rattle.std.specs.Prelude.{Result, Ok, Err}
+use Rattle.refusal.specs.declared.Refusal.{Refusal}
 
 -- ---- the charts
 
@@ -37,7 +36,7 @@ resting_bytes = (chart_at_rest, bytes_at_rest)
 abbrev pub shape_at_rest : Shape
 shape_at_rest = record { n = 6; m = 3; t = 0 }
 
-pub read_at_rest : read_chart chart_at_rest ≡ Read.Chart shape_at_rest
+pub read_at_rest : read_chart chart_at_rest ≡ Ok shape_at_rest
 unfolding chart_at_rest read_chart read_actions read_transitions judge_codes judge_triples
 read_at_rest = refl
 
@@ -46,11 +45,11 @@ steps_e = (chart_in chart_e shape_e).steps
 
 -- ---- what an accepted chart is answered
 
-answered : {Says : Saying} {R : Relations} → AlwaysAnswered Says R → (chart : List ℕ) (sh : Shape) → read_chart chart ≡ Read.Chart sh
-    → (old new : List ℕ) (answer : MatrixAnswer) → sh.n * sh.n ≤ length old → MatrixPromise Says R chart old new answer
-    → (given : Matrix) × (answer ≡ Given given) × Says sh.n sh.m (chart_in chart sh).steps new given
-answered always chart sh read old new (Given given) room w = (given, refl, w.then_answered sh read room)
-answered always chart sh read old new (Refused r) room w = absurd (always chart sh read old new (Refused r) room w r refl)
+answered : {Says : Saying} {R : Relations} → AlwaysAnswered Says R → (chart : List ℕ) (sh : Shape) → read_chart chart ≡ Ok sh
+    → (old new : List ℕ) (answer : Result Matrix Refusal) → sh.n * sh.n ≤ length old → MatrixPromise Says R chart old new answer
+    → (given : Matrix) × (answer ≡ Ok given) × Says sh.n sh.m (chart_in chart sh).steps new given
+answered always chart sh read old new (Ok given) room w = (given, refl, w.then_answered sh read room)
+answered always chart sh read old new (Err r) room w = absurd (always chart sh read old new (Err r) room w r refl)
 
 -- ---- the law
 
@@ -66,10 +65,10 @@ module _ {Says : Saying} {R : Relations} (inside byte : ℕ) (always : AlwaysAns
     (first : R steps_e 1 (0, 1) ≡ true)
     (apart : inside ≡ byte → ⊥) (small : byte ≤ 2)
     (b : Build) (meets : Meets (MatrixPromise Says R) b) where
-  on_e : (given : Matrix) × ((b e lent).0 ≡ Given given) × Shows given (b e lent).1 byte 2
+  on_e : (given : Matrix) × ((b e lent).0 ≡ Ok given) × Shows given (b e lent).1 byte 2
   on_e = let a = answered always chart_e shape_e read_e lent.0 (b e lent).1 (b e lent).0 (omega arith) (meets e lent) in (a.0, a.1, struck _ _ a.2)
 
-  at_rest : (given : Matrix) × ((b resting_bytes lent).0 ≡ Given given) × Shows given (b resting_bytes lent).1 inside 0
+  at_rest : (given : Matrix) × ((b resting_bytes lent).0 ≡ Ok given) × Shows given (b resting_bytes lent).1 inside 0
   unfolding steps_at
   at_rest =
       let a = answered always chart_at_rest shape_at_rest read_at_rest lent.0 (b resting_bytes lent).1 (b resting_bytes lent).0 (omega arith) (meets resting_bytes lent) in
@@ -78,7 +77,7 @@ module _ {Says : Saying} {R : Relations} (inside byte : ℕ) (always : AlwaysAns
   refusing : RefusesEverything b → ⊥
   refusing f = let r = f e lent in always chart_e shape_e read_e lent.0 (b e lent).1 (b e lent).0 (omega arith) (meets e lent) r.0 r.1
 
-  cell_of : (f : SameAlways b) (chart : Slice) (given : Matrix) → (b chart lent).0 ≡ Given given → given.states ≡ 6 → byte_at 6 (b chart lent).1 0 1 ≡ f.0 6 0 1
+  cell_of : (f : SameAlways b) (chart : Slice) (given : Matrix) → (b chart lent).0 ≡ Ok given → given.states ≡ 6 → byte_at 6 (b chart lent).1 0 1 ≡ f.0 6 0 1
   cell_of (cell, f) chart given i six = subst (λ (n : ℕ). byte_at n (b chart lent).1 0 1 ≡ cell n 0 1) six (f chart lent given i 0 1 (omega (arith, six)) (omega (arith, six)))
 
   same : SameAlways b → ⊥

@@ -24,12 +24,11 @@ use Rattle.starred.specs.Boards.{chart_l, sheet_or, starred, SatisfiesAre, Holds
 use Rattle.starred.proofs.Boards.{starred_boards_hold, of_chart, shape_l, read_l}
 use Rattle.property.specs.Promise.{Solution, PropertyPromise}
 use Rattle.solve.specs.declared.Solved.{Solved}
-use Rattle.solve.specs.declared.PropertyAnswer.{PropertyAnswer}
-use Rattle.solve.specs.declared.PropertyAnswer.TheVariants.{Satisfied, Refused}
 use Rattle.property.proofs.Promise.{never_15}
 use Rattle.idle.specs.Slice.{Slice}
 use Rattle.idle.specs.Property.{Build, Meets, RefusesEverything, SameAlways, CopiesFirstRound, InventsRounds, NotIdle}
 use Rattle.idle.proofs.Slice.{are_bytes, l}
+use Rattle.std.specs.Prelude.{Result, Ok, Err}
 
 -- ---- the chart and the two sheets
 
@@ -89,15 +88,15 @@ once = refl
 -- ---- the law
 
 -- what an accepted chart and sheet are answered
-answered : (s : List ℕ) (kind nodes : ℕ) → read_sheet s 1 ≡ sheet kind nodes f → (answer : PropertyAnswer) → PropertyPromise chart_l s answer → (a : Solved) × (answer ≡ Satisfied a) × Solution c kind f a
-answered s kind nodes e (Satisfied a) w = (a, refl, w.both_accepted shape_l kind nodes f read_l e)
-answered s kind nodes e (Refused r) w = absurd (never_15 chart_l s r w (ap (λ (x : Refusal). x.number) (w.both_accepted shape_l kind nodes f read_l e).refusal_is))
+answered : (s : List ℕ) (kind nodes : ℕ) → read_sheet s 1 ≡ sheet kind nodes f → (answer : Result Solved Refusal) → PropertyPromise chart_l s answer → (a : Solved) × (answer ≡ Ok a) × Solution c kind f a
+answered s kind nodes e (Ok a) w = (a, refl, w.both_accepted shape_l kind nodes f read_l e)
+answered s kind nodes e (Err r) w = absurd (never_15 chart_l s r w (ap (λ (x : Refusal). x.number) (w.both_accepted shape_l kind nodes f read_l e).refusal_is))
 
 module _ (b : Build) (meets : Meets b) where
-  by_least : (a : Solved) × (b l least ≡ Satisfied a) × Solution c 1 f a
+  by_least : (a : Solved) × (b l least ≡ Ok a) × Solution c 1 f a
   by_least = answered (sheet_or 1) 1 5 read_least (b l least) (meets l least)
 
-  by_greatest : (a : Solved) × (b l greatest ≡ Satisfied a) × Solution c 2 f a
+  by_greatest : (a : Solved) × (b l greatest ≡ Ok a) × Solution c 2 f a
   by_greatest = answered (sheet_or 2) 2 5 read_greatest (b l greatest) (meets l greatest)
 
   refusing : RefusesEverything b → ⊥

@@ -20,7 +20,6 @@ use Rattle.chart.specs.Chart.{Step, Chart}
 use Rattle.chart.specs.Layout.{Bytes, Rising}
 use Rattle.chart.specs.Reading.{read_chart, read_actions, read_transitions, judge_codes, judge_triples, bytes_at, steps_at, chart_in}
 use Rattle.chart.specs.declared.Shape.{Shape}
-use Rattle.chart.specs.declared.ChartRead.TheVariants as Read
 use Rattle.sheet.specs.Meaning.{leaves}
 use Rattle.sheet.proofs.Meaning.{TargetsBelow}
 use Rattle.nearness.specs.Relation.{matched, bisimulation_round, Near}
@@ -28,7 +27,6 @@ use Rattle.nearness.specs.Mark.{Mark}
 use Rattle.nearness.proofs.Formulas.{near_refl, near_sym}
 use Rattle.nearness.proofs.Mark.{mark_drop}
 use Rattle.lent.specs.Lent.{writes, LentPromise}
-use Rattle.lent.specs.declared.LentAnswer.{LentAnswer}
 use Rattle.reason.specs.Line.{Line, list_bytes, answers}
 use Rattle.reason.specs.Good.{Listed}
 use Rattle.reason.specs.Own.{MarksAre, Chosen, OwnList}
@@ -43,6 +41,8 @@ use Rattle.idle.specs.Written as Written
 use Rattle.idle.specs.Reasons.{Promise, WhereAnswered, FirstRoundOnly, OneOrderOnly, WritesCodes, NotIdle}
 use Rattle.idle.proofs.Slice.{are_bytes, lent}
 use Rattle.idle.proofs.Written.{filled, not_idle}
+use Rattle.std.specs.Prelude.{Result, Ok}
+use Rattle.refusal.specs.declared.Refusal.{Refusal}
 
 -- ---- a state that steps to itself beside one at rest
 
@@ -63,7 +63,7 @@ loops = record { source = 0; action = 0; target = 0 } ∷ []
 abbrev pub two : Slice
 two = (chart_two, bytes_two)
 
-pub read_two_lem : read_chart chart_two ≡ Read.Chart shape_two
+pub read_two_lem : read_chart chart_two ≡ Ok shape_two
 unfolding chart_two read_chart read_actions read_transitions judge_codes judge_triples
 read_two_lem = refl
 
@@ -162,7 +162,7 @@ shape_one = record { n = 1; m = 0; t = 0 }
 abbrev pub one : Slice
 one = (chart_one, bytes_one)
 
-pub read_one : read_chart chart_one ≡ Read.Chart shape_one
+pub read_one : read_chart chart_one ≡ Ok shape_one
 unfolding chart_one read_chart read_actions read_transitions judge_codes judge_triples
 read_one = refl
 
@@ -203,7 +203,7 @@ steps_three = (chart_in chart_three shape_three).steps
 abbrev three : Slice
 three = (chart_three, bytes_three)
 
-read_three : read_chart chart_three ≡ Read.Chart shape_three
+read_three : read_chart chart_three ≡ Ok shape_three
 unfolding chart_three read_chart read_actions read_transitions judge_codes judge_triples
 read_three = refl
 
@@ -219,23 +219,23 @@ not_twice = refl
 
 -- the list that a chart's promise speaks of is its own list, whichever way that is known
 reasons_are : {n : ℕ} {steps : List Step} (lines : List Line) (marks : ℕ × ℕ → ℕ) → TargetsBelow n steps → MarksAre n steps marks → OwnList n steps marks lines
-    → {old new : List ℕ} {answer : LentAnswer} → Reasons n steps old new answer → LentPromise (writes (list_bytes lines)) old new answer
+    → {old new : List ℕ} {answer : Result ℕ Refusal} → Reasons n steps old new answer → LentPromise (writes (list_bytes lines)) old new answer
 reasons_are {n} {steps} lines marks targets m o {old} {new} {answer} r =
     subst (λ (x : List Line). LentPromise (writes (list_bytes x)) old new answer) (own_determined n steps targets r.mark marks r.marks_are m r.lines lines r.own o) r.written
 
-at_two : (old new : List ℕ) (answer : LentAnswer) → ReasonsPromise chart_two old new answer → LentPromise (writes (list_bytes (back ∷ forth ∷ []))) old new answer
+at_two : (old new : List ℕ) (answer : Result ℕ Refusal) → ReasonsPromise chart_two old new answer → LentPromise (writes (list_bytes (back ∷ forth ∷ []))) old new answer
 at_two old new answer p =
     let r : Reasons 2 loops old new answer = subst (λ (s : List Step). Reasons 2 s old new answer) steps_two (rw read_two_lem at p) in
     reasons_are (back ∷ forth ∷ []) mark (λ t m. subst⁻¹ (λ (u : Step). u.target < 2) (only_one m) (omega arith)) marks_two own_two r
 
-at_one : (old new : List ℕ) (answer : LentAnswer) → ReasonsPromise chart_one old new answer → LentPromise (writes (list_bytes [])) old new answer
+at_one : (old new : List ℕ) (answer : Result ℕ Refusal) → ReasonsPromise chart_one old new answer → LentPromise (writes (list_bytes [])) old new answer
 at_one old new answer p =
     let r : Reasons 1 [] old new answer = subst (λ (s : List Step). Reasons 1 s old new answer) steps_one (rw read_one at p) in
     reasons_are [] mark (λ t m. absurd (not-nil m)) marks_one own_one r
 
 module _ (b : Written.Build Slice) (meets : Written.Meets Promise b) where
   -- what is said where a build answers is said of every line of the own list
-  shows : {Says : Chart → Line → Type 0} → WhereAnswered Says b → (chart : Slice) (sh : Shape) → read_chart chart.0 ≡ Read.Chart sh
+  shows : {Says : Chart → Line → Type 0} → WhereAnswered Says b → (chart : Slice) (sh : Shape) → read_chart chart.0 ≡ Ok sh
       → (lines : List Line) → length (list_bytes lines) ≤ 40 → LentPromise (writes (list_bytes lines)) lent.0 (b chart lent).1 (b chart lent).0 → (l : Line) → Mem l lines → Says (chart_in chart.0 sh) l
   shows w chart sh read lines room p l m = let f = filled (list_bytes lines) (b chart lent).1 (b chart lent).0 room p in w.said chart lent sh _ lines read f.0 f.1 l m
 

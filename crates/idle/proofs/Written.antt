@@ -5,30 +5,30 @@ use mathlib.Core.List.{List}
 use lib.ListN.{length, take}
 use borrow.Author.Tests.{le-ltb}
 use Rattle.lent.specs.Lent.{writes, LentPromise}
-use Rattle.lent.specs.declared.LentAnswer.{LentAnswer}
-use Rattle.lent.specs.declared.LentAnswer.TheVariants.{Written}
 use Rattle.lent.proofs.Lent.{not_written, written_fills}
 use Rattle.idle.specs.Written.{Build, Meets, RefusesEverything, SameAlways, LeavesUnwritten, NotIdle}
 use Rattle.idle.proofs.Slice.{lent}
+use Rattle.std.specs.Prelude.{Result, Ok}
+use Rattle.refusal.specs.declared.Refusal.{Refusal}
 
-pub filled : (bytes new : List ℕ) (answer : LentAnswer) → length bytes ≤ 40 → LentPromise (writes bytes) lent.0 new answer → (answer ≡ Written (length bytes)) × (take (length bytes) new ≡ bytes)
+pub filled : (bytes new : List ℕ) (answer : Result ℕ Refusal) → length bytes ≤ 40 → LentPromise (writes bytes) lent.0 new answer → (answer ≡ Ok (length bytes)) × (take (length bytes) new ≡ bytes)
 filled bytes new answer room p =
-    let a : answer ≡ Written (length bytes) = rw (le-ltb 40 (length bytes) room) at p.answered in
+    let a : answer ≡ Ok (length bytes) = rw (le-ltb 40 (length bytes) room) at p.answered in
     let f = written_fills (writes bytes) lent.0 new (length bytes) (subst (LentPromise (writes bytes) lent.0 new) a p) in
     let i = f.is in
     let e : f.bytes ≡ bytes = cc in
     (a, f.start_is ∙ e)
 
-module _ {I : Type 0} (Promise : I → List ℕ → List ℕ → LentAnswer → Type 0) (i j : I) (first second : List ℕ)
-    (at_i : (old new : List ℕ) (answer : LentAnswer) → Promise i old new answer → LentPromise (writes first) old new answer)
-    (at_j : (old new : List ℕ) (answer : LentAnswer) → Promise j old new answer → LentPromise (writes second) old new answer)
+module _ {I : Type 0} (Promise : I → List ℕ → List ℕ → Result ℕ Refusal → Type 0) (i j : I) (first second : List ℕ)
+    (at_i : (old new : List ℕ) (answer : Result ℕ Refusal) → Promise i old new answer → LentPromise (writes first) old new answer)
+    (at_j : (old new : List ℕ) (answer : Result ℕ Refusal) → Promise j old new answer → LentPromise (writes second) old new answer)
     (room_i : length first ≤ 40) (room_j : length second ≤ 40)
     (apart : first ≡ second → ⊥) (small : take (length first) lent.0 ≡ first → ⊥)
     (b : Build I) (meets : Meets Promise b) where
-  of_i : ((b i lent).0 ≡ Written (length first)) × (take (length first) (b i lent).1 ≡ first)
+  of_i : ((b i lent).0 ≡ Ok (length first)) × (take (length first) (b i lent).1 ≡ first)
   of_i = filled first (b i lent).1 (b i lent).0 room_i (at_i lent.0 (b i lent).1 (b i lent).0 (meets i lent))
 
-  of_j : ((b j lent).0 ≡ Written (length second)) × (take (length second) (b j lent).1 ≡ second)
+  of_j : ((b j lent).0 ≡ Ok (length second)) × (take (length second) (b j lent).1 ≡ second)
   of_j = filled second (b j lent).1 (b j lent).0 room_j (at_j lent.0 (b j lent).1 (b j lent).0 (meets j lent))
 
   refusing : RefusesEverything b → ⊥

@@ -4,21 +4,7 @@ use Rattle.std.specs.Prelude.{ℕ, ◌/◌, ◌%◌, List, eqb, get_or}
 use Rattle.settle.specs.Test.{pick}
 use Rattle.refusal.specs.declared.Input.{Input}
 use Rattle.refusal.specs.declared.Refusal.{Refusal}
-use Rattle.relation.specs.declared.MatrixAnswer.{MatrixAnswer}
-use Rattle.relation.specs.declared.MatrixAnswer.TheVariants as Matrices
-use Rattle.equal.specs.declared.EqualAnswer.{EqualAnswer}
-use Rattle.equal.specs.declared.EqualAnswer.TheVariants as Equal
-use Rattle.solve.specs.declared.PropertyAnswer.{PropertyAnswer}
-use Rattle.solve.specs.declared.PropertyAnswer.TheVariants as Property
 use Rattle.solve.specs.declared.Solved.{Solved}
-use Rattle.both_solutions.specs.declared.BothAnswer.{BothAnswer}
-use Rattle.both_solutions.specs.declared.BothAnswer.TheVariants as Both
-use Rattle.lent.specs.declared.LentAnswer.{LentAnswer}
-use Rattle.lent.specs.declared.LentAnswer.TheVariants.{Written, Refused}
-use Rattle.check_reasons.specs.declared.CheckAnswer.{CheckAnswer}
-use Rattle.check_reasons.specs.declared.CheckAnswer.TheVariants as Checking
-use Rattle.compare.specs.declared.CompareAnswer.{CompareAnswer}
-use Rattle.compare.specs.declared.CompareAnswer.TheVariants as Comparing
 use Rattle.calls.specs.Shown.{Lent, lent, EqualRowsShown, EqualPairsShown, PropertyShown, BothShown, WrittenShown, CheckShown, CompareShown}
 use Rattle.idle.specs.Slice.{Slice}
 use Rattle.idle.specs.Matrix as Matrix
@@ -29,6 +15,10 @@ use Rattle.idle.specs.BothSolutions as Boths
 use Rattle.idle.specs.Written as Written
 use Rattle.idle.specs.CheckReasons as Checks
 use Rattle.idle.specs.Compare as Compare
+use Rattle.std.specs.Prelude.{Result, Ok, Err}
+use Rattle.both_solutions.specs.declared.Solutions.{Solutions}
+use Rattle.compare.specs.declared.Comparison.{Comparison}
+use Rattle.relation.specs.declared.Matrix.{Matrix}
 
 -- 0 chart, 1 sheet, 2 buffer or name, 3 second chart
 abbrev pub input_of : ℕ → Input
@@ -45,8 +35,8 @@ pub record MatrixLeft : Type 0 where
   pub states : ℕ
   pub rounds : ℕ
 
-abbrev pub matrix_read : MatrixLeft → MatrixAnswer
-matrix_read x = pick (eqb x.code 0) (Matrices.Given (record { states = x.states; rounds = x.rounds })) (Matrices.Refused (refusal_of x.code))
+abbrev pub matrix_read : MatrixLeft → Result Matrix Refusal
+matrix_read x = pick (eqb x.code 0) (Ok (record { states = x.states; rounds = x.rounds })) (Err (refusal_of x.code))
 
 abbrev pub matrix_build : (Slice → Slice → MatrixLeft) → Matrix.Build
 matrix_build call chart old = (matrix_read (call chart old), (call chart old).bytes)
@@ -63,8 +53,8 @@ pub record EqualLeft : Type 0 where
   pub words : List ℕ
   pub counted : ℕ
 
-abbrev pub equal_read : EqualLeft → EqualAnswer
-equal_read x = pick (eqb x.code 0) (Equal.Counted x.counted) (Equal.Refused (refusal_of x.code))
+abbrev pub equal_read : EqualLeft → Result ℕ Refusal
+equal_read x = pick (eqb x.code 0) (Ok x.counted) (Err (refusal_of x.code))
 
 abbrev pub rows_build : (Slice → Rows.Words → EqualLeft) → Rows.Build
 rows_build call chart old = (equal_read (call chart old), (call chart old).words)
@@ -87,8 +77,8 @@ pub record PropertyLeft : Type 0 where
   pub count : ℕ
   pub rounds : ℕ
 
-abbrev pub property_read : PropertyLeft → PropertyAnswer
-property_read x = pick (eqb x.code 0) (Property.Satisfied (record { word = x.word; count = x.count; rounds = x.rounds })) (Property.Refused (refusal_of x.code))
+abbrev pub property_read : PropertyLeft → Result Solved Refusal
+property_read x = pick (eqb x.code 0) (Ok (record { word = x.word; count = x.count; rounds = x.rounds })) (Err (refusal_of x.code))
 
 abbrev pub property_build : (Slice → Slice → PropertyLeft) → Properties.Build
 property_build call chart sheet = property_read (call chart sheet)
@@ -107,8 +97,8 @@ pub record BothLeft : Type 0 where
 abbrev pub solved_of : List ℕ → Solved
 solved_of numbers = record { word = get_or numbers 0 0; count = get_or numbers 1 0; rounds = get_or numbers 2 0 }
 
-abbrev pub both_read : BothLeft → BothAnswer
-both_read x = pick (eqb x.code 0) (Both.Both (record { least = solved_of x.least; greatest = solved_of x.greatest })) (Both.Refused (refusal_of x.code))
+abbrev pub both_read : BothLeft → Result Solutions Refusal
+both_read x = pick (eqb x.code 0) (Ok (record { least = solved_of x.least; greatest = solved_of x.greatest })) (Err (refusal_of x.code))
 
 abbrev pub both_build : (Slice → Slice → BothLeft) → Boths.Build
 both_build call chart sheet = both_read (call chart sheet)
@@ -124,14 +114,14 @@ pub record WrittenLeft : Type 0 where
   pub bytes : List ℕ
   pub written : ℕ
 
-abbrev pub written_read : WrittenLeft → LentAnswer
-written_read x = pick (eqb x.code 0) (Written x.written) (Refused (refusal_of x.code))
+abbrev pub written_read : WrittenLeft → Result ℕ Refusal
+written_read x = pick (eqb x.code 0) (Ok x.written) (Err (refusal_of x.code))
 
 abbrev pub written_build : {I : Type 0} → (I → Slice → WrittenLeft) → Written.Build I
 written_build call i old = (written_read (call i old), (call i old).bytes)
 
 -- Promise is what the question promises of what is given, of the lent bytes before and after, and of the answer
-abbrev pub MeetsWritten : {I : Type 0} → (I → List ℕ → List ℕ → LentAnswer → Type 0) → ℕ → (I → Slice → WrittenLeft) → Type 0
+abbrev pub MeetsWritten : {I : Type 0} → (I → List ℕ → List ℕ → Result ℕ Refusal → Type 0) → ℕ → (I → Slice → WrittenLeft) → Type 0
 MeetsWritten {I} Promise written call = (i : I) (old : Slice) → let x = call i old in WrittenShown (Promise i) old.0 x.bytes (lent written x.written) x.code
 
 -- ---- the check of a list
@@ -140,8 +130,8 @@ pub record CheckLeft : Type 0 where
   pub code : ℕ
   pub lines : ℕ
 
-abbrev pub check_read : CheckLeft → CheckAnswer
-check_read x = pick (eqb x.code 0) (Checking.Accepted x.lines) (Checking.Refused (refusal_of x.code))
+abbrev pub check_read : CheckLeft → Result ℕ Refusal
+check_read x = pick (eqb x.code 0) (Ok x.lines) (Err (refusal_of x.code))
 
 abbrev pub check_build : (Slice → Slice → CheckLeft) → Checks.Build
 check_build call chart list = check_read (call chart list)
@@ -157,8 +147,8 @@ pub record CompareLeft : Type 0 where
   pub written : ℕ
   pub rounds : ℕ
 
-abbrev pub compare_read : CompareLeft → CompareAnswer
-compare_read x = pick (eqb x.code 0) (Comparing.Compared (record { written = x.written; rounds = x.rounds })) (Comparing.Refused (refusal_of x.code))
+abbrev pub compare_read : CompareLeft → Result Comparison Refusal
+compare_read x = pick (eqb x.code 0) (Ok (record { written = x.written; rounds = x.rounds })) (Err (refusal_of x.code))
 
 abbrev pub compare_build : (Slice → Slice → Slice → CompareLeft) → Compare.Build
 compare_build call first second old = (compare_read (call first second old), (call first second old).bytes)

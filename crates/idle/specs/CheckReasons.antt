@@ -3,21 +3,20 @@
 use Rattle.std.specs.Prelude.{ℕ, ◌≡◌, length}
 use Rattle.refusal.specs.declared.Refusal.{Refusal}
 use Rattle.check_reasons.specs.Promise.{CheckPromise}
-use Rattle.check_reasons.specs.declared.CheckAnswer.{CheckAnswer}
-use Rattle.check_reasons.specs.declared.CheckAnswer.TheVariants.{Accepted, Refused}
 use Rattle.idle.specs.Slice.{Slice}
+use Rattle.std.specs.Prelude.{Result, Ok, Err}
 
 abbrev pub Build : Type 0
-Build = Slice → Slice → CheckAnswer
+Build = Slice → Slice → Result ℕ Refusal
 
 abbrev pub Meets : Build → Type 0
 Meets b = (chart list : Slice) → CheckPromise chart.0 list.0 (b chart list)
 
 abbrev pub RefusesEverything : Build → Type 0
-RefusesEverything b = (chart list : Slice) → (r : Refusal) × (b chart list ≡ Refused r)
+RefusesEverything b = (chart list : Slice) → (r : Refusal) × (b chart list ≡ Err r)
 
 abbrev pub AcceptsEverything : Build → Type 0
-AcceptsEverything b = (chart list : Slice) → (lines : ℕ) × (b chart list ≡ Accepted lines)
+AcceptsEverything b = (chart list : Slice) → (lines : ℕ) × (b chart list ≡ Ok lines)
 
 -- the lines are counted and not read: lists of the same length get the same answer
 abbrev pub CountsOnly : Build → Type 0

@@ -12,22 +12,21 @@ use Rattle.beside.specs.Reading.{two, read_two}
 use Rattle.compare.specs.Comparison.{counted}
 use Rattle.compare.specs.Promise.{ComparePromise}
 use Rattle.compare.specs.declared.Comparison.{Comparison}
-use Rattle.compare.specs.declared.CompareAnswer.{CompareAnswer}
-use Rattle.compare.specs.declared.CompareAnswer.TheVariants.{Compared, Refused}
 use Rattle.idle.specs.Slice.{Slice}
+use Rattle.std.specs.Prelude.{Result, Ok, Err}
 
 abbrev pub Build : Type 0
-Build = Slice → Slice → Slice → CompareAnswer × List ℕ
+Build = Slice → Slice → Slice → Result Comparison Refusal × List ℕ
 
 abbrev pub Meets : Build → Type 0
 Meets b = (first second old : Slice) → ComparePromise first.0 second.0 old.0 (b first second old).1 (b first second old).0
 
 abbrev pub RefusesEverything : Build → Type 0
-RefusesEverything b = (first second old : Slice) → (r : Refusal) × ((b first second old).0 ≡ Refused r)
+RefusesEverything b = (first second old : Slice) → (r : Refusal) × ((b first second old).0 ≡ Err r)
 
 -- what holds where a build answers, of the two charts, of the bytes that it says it wrote and of the rounds
 pub record WhereAnswered (Says : Chart → Chart → List ℕ → ℕ → Type 0) (b : Build) : Type 0 where
-  pub said : (first second old : Slice) (c d : Chart) (given : Comparison) → read_two first.0 second.0 ≡ two c d → (b first second old).0 ≡ Compared given
+  pub said : (first second old : Slice) (c d : Chart) (given : Comparison) → read_two first.0 second.0 ≡ two c d → (b first second old).0 ≡ Ok given
       → Says c d (take given.written (b first second old).1) given.rounds
 
 -- the same list for all charts of as many states

@@ -7,25 +7,23 @@ use Rattle.refusal.specs.declared.Refusal.{Refusal}
 use Rattle.chart.specs.Chart.{Step}
 use Rattle.chart.specs.Reading.{read_chart, chart_in}
 use Rattle.chart.specs.declared.Shape.{Shape}
-use Rattle.chart.specs.declared.ChartRead.TheVariants as Read
 use Rattle.nearness.specs.Relation.{Near}
 use Rattle.equal.specs.Promise.{HowMany, PairsPromise}
-use Rattle.equal.specs.declared.EqualAnswer.{EqualAnswer}
-use Rattle.equal.specs.declared.EqualAnswer.TheVariants.{Counted, Refused}
 use Rattle.idle.specs.Slice.{Slice}
+use Rattle.std.specs.Prelude.{Result, Ok, Err}
 
 abbrev pub Build : Type 0
-Build = Slice → EqualAnswer
+Build = Slice → Result ℕ Refusal
 
 abbrev pub Meets : Build → Type 0
 Meets b = (chart : Slice) → PairsPromise chart.0 (b chart)
 
 abbrev pub RefusesEverything : Build → Type 0
-RefusesEverything b = (chart : Slice) → (r : Refusal) × (b chart ≡ Refused r)
+RefusesEverything b = (chart : Slice) → (r : Refusal) × (b chart ≡ Err r)
 
 -- what is so of every number that is answered, of the states and the steps
 abbrev pub Always : (ℕ → List Step → ℕ → Type 0) → Build → Type 0
-Always Says b = (chart : Slice) (sh : Shape) (c : ℕ) → read_chart chart.0 ≡ Read.Chart sh → b chart ≡ Counted c → Says sh.n (chart_in chart.0 sh).steps c
+Always Says b = (chart : Slice) (sh : Shape) (c : ℕ) → read_chart chart.0 ≡ Ok sh → b chart ≡ Ok c → Says sh.n (chart_in chart.0 sh).steps c
 
 -- the same number for every chart of as many states: n, n * n, any number of its own
 abbrev pub SameAlways : Build → Type 0
@@ -37,7 +35,7 @@ CopiesFirstRound = Always (λ n steps c. c ≡ count (Near steps 1) (pairs n))
 
 -- for some chart fewer than its states
 abbrev pub FewerThanStates : Build → Type 0
-FewerThanStates b = (chart : Slice) × (sh : Shape) × (c : ℕ) × (read_chart chart.0 ≡ Read.Chart sh) × (b chart ≡ Counted c) × (c < sh.n)
+FewerThanStates b = (chart : Slice) × (sh : Shape) × (c : ℕ) × (read_chart chart.0 ≡ Ok sh) × (b chart ≡ Ok c) × (c < sh.n)
 
 -- each state's pair with itself is not counted
 abbrev pub WithoutItself : Build → Type 0

@@ -6,30 +6,28 @@ use mathlib.Core.List.{List, Memᴰ as Mem}
 use Rattle.refusal.specs.declared.Refusal.{Refusal}
 use Rattle.chart.specs.Reading.{read_chart, chart_in}
 use Rattle.chart.specs.declared.Shape.{Shape}
-use Rattle.chart.specs.declared.ChartRead.TheVariants as Read
 use Rattle.nearness.specs.Relation.{Near}
 use Rattle.relation.specs.Rows.{in_rows}
 use Rattle.equal.specs.Promise.{RowsPromise}
-use Rattle.equal.specs.declared.EqualAnswer.{EqualAnswer}
-use Rattle.equal.specs.declared.EqualAnswer.TheVariants.{Counted, Refused}
 use Rattle.idle.specs.Slice.{Slice}
+use Rattle.std.specs.Prelude.{Result, Ok, Err}
 
 -- what is lent
 abbrev pub Words : Type 0
 Words = (words : List ℕ) × (length words ≡ 64) × ((x : ℕ) → Mem x words → x < 2 ^ 64)
 
 abbrev pub Build : Type 0
-Build = Slice → Words → EqualAnswer × List ℕ
+Build = Slice → Words → Result ℕ Refusal × List ℕ
 
 abbrev pub Meets : Build → Type 0
 Meets b = (chart : Slice) (old : Words) → RowsPromise chart.0 old.0 (b chart old).1 (b chart old).0
 
 abbrev pub RefusesEverything : Build → Type 0
-RefusesEverything b = (chart : Slice) (old : Words) → (r : Refusal) × ((b chart old).0 ≡ Refused r)
+RefusesEverything b = (chart : Slice) (old : Words) → (r : Refusal) × ((b chart old).0 ≡ Err r)
 
 -- where it answers that there are n states, these are their bits
 abbrev pub Sets : (Words → ℕ → ℕ → ℕ → Bool) → Build → Type 0
-Sets bits b = (chart : Slice) (old : Words) (n : ℕ) → (b chart old).0 ≡ Counted n → (p q : ℕ) → p < n → q < n → in_rows (b chart old).1 p q ≡ bits old n p q
+Sets bits b = (chart : Slice) (old : Words) (n : ℕ) → (b chart old).0 ≡ Ok n → (p q : ℕ) → p < n → q < n → in_rows (b chart old).1 p q ≡ bits old n p q
 
 -- the same words for every chart of as many states, given the same words
 abbrev pub SameAlways : Build → Type 0
@@ -52,7 +50,7 @@ AllEqual = Sets (λ old n p q. true)
 
 -- a real first round, copied after: the pairs of R1
 abbrev pub CopiesFirstRound : Build → Type 0
-CopiesFirstRound b = (chart : Slice) (old : Words) (sh : Shape) (n : ℕ) → read_chart chart.0 ≡ Read.Chart sh → (b chart old).0 ≡ Counted n
+CopiesFirstRound b = (chart : Slice) (old : Words) (sh : Shape) (n : ℕ) → read_chart chart.0 ≡ Ok sh → (b chart old).0 ≡ Ok n
     → (p q : ℕ) → p < sh.n → q < sh.n → in_rows (b chart old).1 p q ≡ Near (chart_in chart.0 sh).steps 1 (p, q)
 
 pub record NotIdle (b : Build) : Type 0 where

@@ -6,21 +6,20 @@ use mathlib.Core.List.{List, Memᴰ as Mem}
 use Rattle.chart.specs.Chart.{Chart}
 use Rattle.chart.specs.Reading.{chart_in, read_chart}
 use Rattle.chart.specs.declared.Shape.{Shape}
-use Rattle.chart.specs.declared.ChartRead.TheVariants as Read
 use Rattle.nearness.specs.Relation.{Near}
-use Rattle.lent.specs.declared.LentAnswer.{LentAnswer}
-use Rattle.lent.specs.declared.LentAnswer.TheVariants.{Written}
 use Rattle.reason.specs.Line.{Line, pair_of, list_bytes}
 use Rattle.reasons.specs.Promise.{ReasonsPromise}
 use Rattle.idle.specs.Slice.{Slice}
 use Rattle.idle.specs.Written as Written
+use Rattle.std.specs.Prelude.{Result, Ok}
+use Rattle.refusal.specs.declared.Refusal.{Refusal}
 
-abbrev pub Promise : Slice → List ℕ → List ℕ → LentAnswer → Type 0
+abbrev pub Promise : Slice → List ℕ → List ℕ → Result ℕ Refusal → Type 0
 Promise chart = ReasonsPromise chart.0
 
 -- what holds where a build answers, of the chart and of each line that it wrote
 pub record WhereAnswered (Says : Chart → Line → Type 0) (b : Written.Build Slice) : Type 0 where
-  pub said : (chart old : Slice) (sh : Shape) (size : ℕ) (lines : List Line) → read_chart chart.0 ≡ Read.Chart sh → (b chart old).0 ≡ Written size
+  pub said : (chart old : Slice) (sh : Shape) (size : ℕ) (lines : List Line) → read_chart chart.0 ≡ Ok sh → (b chart old).0 ≡ Ok size
       → take size (b chart old).1 ≡ list_bytes lines → (l : Line) → Mem l lines → Says (chart_in chart.0 sh) l
 
 -- a real first round, and nothing after it: only pairs that are not in R1 have a line

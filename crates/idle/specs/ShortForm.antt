@@ -1,8 +1,9 @@
 -- What the short form is given beside the buffer: a chart, a sheet and a name, which is any 64-bit number.
 use Rattle.std.specs.Prelude.{ℕ, ◌<◌, ◌^◌, List}
-use Rattle.lent.specs.declared.LentAnswer.{LentAnswer}
 use Rattle.short_form.specs.Promise.{ShortFormPromise}
 use Rattle.idle.specs.Slice.{Slice}
+use Rattle.std.specs.Prelude.{Result}
+use Rattle.refusal.specs.declared.Refusal.{Refusal}
 
 pub record Asked : Type 0 where
   pub chart : Slice
@@ -10,5 +11,5 @@ pub record Asked : Type 0 where
   pub name : ℕ
   pub name_word : name < 2 ^ 64
 
-abbrev pub Promise : Asked → List ℕ → List ℕ → LentAnswer → Type 0
+abbrev pub Promise : Asked → List ℕ → List ℕ → Result ℕ Refusal → Type 0
 Promise i = ShortFormPromise i.chart.0 i.sheet.0 i.name

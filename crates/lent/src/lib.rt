@@ -5,21 +5,14 @@ ghost use Rattle.lent.specs.Lent.{writes, LentPromise};
 
 use refusal::Refusal;
 
-// The length written, or the refusal.
-#[derive(Drop)]
-pub enum LentAnswer {
-    Written(usize),
-    Refused(Refusal),
-}
-
-// The bytes fill the start of the lent buffer; 14 where it is shorter.
-pub fn fill(buffer: &mut [u8], bytes: &[u8]) -> LentAnswer
+// The bytes fill the start of the lent buffer; 14 where it is shorter. The answer is the length written.
+pub fn fill(buffer: &mut [u8], bytes: &[u8]) -> Result<usize, Refusal>
     ensures { LentPromise (writes bytes.now) buffer.old buffer.new result }
 {
     let size = bytes.len();
     if buffer.len() < size {
-        return LentAnswer::Refused(refusal::of_lent(14));
+        return Err(Refusal::of_lent(14));
     }
-    text::put_bytes(buffer, 0, bytes);
-    LentAnswer::Written(size)
+    buffer[..size].copy_from_slice(bytes);
+    Ok(size)
 }

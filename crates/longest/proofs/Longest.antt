@@ -12,7 +12,6 @@ use native.Mathlib.Decide.{ℕ_discrete}
 use lib.ListN.{length}
 use Rattle.chart.specs.Layout.{longest_chart, encode, Earlier, Rising, StepIn, WellFormed}
 use Rattle.chart.specs.Reading.{read_chart, shape_of}
-use Rattle.chart.specs.declared.ChartRead.TheVariants as Read
 use Rattle.chart.proofs.Accepted.{accepted}
 use Rattle.chart.proofs.Exactly.{encoded_reads}
 use Rattle.sheet.specs.Formula.{nodes}
@@ -21,6 +20,7 @@ use Rattle.sheet.specs.Layout.{longest_sheet, formula_bytes, LabelIn, LabelsIn}
 use Rattle.sheet.specs.Reading.{sheet, read_sheet}
 use Rattle.sheet.proofs.Accepted.{layout_written}
 use Rattle.longest.specs.Longest.{counted, step_of, full_chart, nested}
+use Rattle.std.specs.Prelude.{Ok}
 
 -- ---- items that are counted
 
@@ -75,7 +75,7 @@ full_formed =
     }
 
 -- it is accepted, and as long as a chart can be
-pub full_accepted : read_chart (encode full_chart) ≡ Read.Chart (shape_of full_chart)
+pub full_accepted : read_chart (encode full_chart) ≡ Ok (shape_of full_chart)
 full_accepted = (encoded_reads (encode full_chart) full_chart refl full_formed).0
 
 pub full_length : length (encode full_chart) ≡ longest_chart

@@ -22,7 +22,6 @@ use Rattle.chart.specs.Reading.{chart_in, shape_of}
 use Rattle.chart.proofs.Accepted.{accepted}
 use Rattle.chart.proofs.Refused.{refused}
 use Rattle.nearness.proofs.Mark.{mark_unique}
-use Rattle.lent.specs.declared.LentAnswer.TheVariants.{Refused}
 use Rattle.reason.specs.Line.{Line, list_bytes, longest_list}
 use Rattle.reason.specs.Good.{Listed}
 use Rattle.reason.specs.Spelled.{is_pair}
@@ -36,6 +35,7 @@ use Rattle.reasons.proofs.Promise.{reasons_refused}
 use Rattle.longest.specs.Header.{ReasonsReach}
 use Rattle.longest.specs.Longest.{row_chart, row_mark}
 use Rattle.longest.proofs.Row.{row_states, row_read, links, other_mark, row_marks, row_list}
+use Rattle.std.specs.Prelude.{Err}
 
 -- ---- how many pairs are listed
 
@@ -134,7 +134,7 @@ reasons_reached = record {
 -- ---- a buffer as long
 
 -- a chart's own refusals have other numbers, and no list of reasons is longer
-pub reasons_room : (chart old new : List ℕ) (r : Refusal) → longest_list ≤ length old → ReasonsPromise chart old new (Refused r) → r.number ≡ 14 → ⊥
+pub reasons_room : (chart old new : List ℕ) (r : Refusal) → longest_list ≤ length old → ReasonsPromise chart old new (Err r) → r.number ≡ 14 → ⊥
 reasons_room chart old new r room p e = ⊎_elim
     (λ i. omega (arith, (refused chart r i).number_few))
     (λ f. let short = f.1 in let o = short.own in omega (arith, short.longer, own_fits o.shape.n short.lines (accepted chart o.shape o.read).states_few o.marks_are o.own))

@@ -9,7 +9,8 @@ use Rattle.nearness.specs.Bisimulation.{Bisimilar}
 use Rattle.nearness.specs.Mark.{Mark, TellsApart, SmallestDepth}
 use Rattle.relation.specs.Promise.{byte_at, MatrixPromise}
 use Rattle.relation.specs.declared.Matrix.{Matrix}
-use Rattle.relation.specs.declared.MatrixAnswer.{MatrixAnswer}
+use Rattle.std.specs.Prelude.{Result}
+use Rattle.refusal.specs.declared.Refusal.{Refusal}
 
 -- the marks of a chart of n states and m actions with these steps
 pub record MarksOf (n m : ℕ) (steps : List Step) (bytes : List ℕ) (given : Matrix) : Type 0 where
@@ -25,5 +26,5 @@ pub record MarksOf (n m : ℕ) (steps : List Step) (bytes : List ℕ) (given : M
   pub rounds_borne_or_zero : (given.rounds ≡ 0) ⊎ ((p : ℕ) × (q : ℕ) × (p < n) × (q < n) × (byte_at n bytes p q ≡ given.rounds))
   pub rounds_few : given.rounds ≤ n - 1
 
-abbrev pub MarksPromise : List ℕ → List ℕ → List ℕ → MatrixAnswer → Type 0
+abbrev pub MarksPromise : List ℕ → List ℕ → List ℕ → Result Matrix Refusal → Type 0
 MarksPromise = MatrixPromise MarksOf Near

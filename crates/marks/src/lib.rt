@@ -4,23 +4,21 @@
 
 ghost use Rattle.marks.specs.Promise.{MarksPromise};
 
-use chart::ChartRead;
-use relation::{Matrix, MatrixAnswer};
+use chart::AcceptedChart;
+use refusal::Refusal;
+use relation::Matrix;
 
 // The byte at p * n + q of the buffer becomes the mark of (p, q).
-pub fn marks(chart: &[u8], buffer: &mut [u8]) -> MatrixAnswer
+pub fn marks(chart: &[u8], buffer: &mut [u8]) -> Result<Matrix, Refusal>
     ensures { MarksPromise chart.now buffer.old buffer.new result }
 {
-    let shape = match chart::read_chart(chart) {
-        ChartRead::Refused(r) => return MatrixAnswer::Refused(r),
-        ChartRead::Chart(s) => s,
-    };
-    let n = shape.n;
+    let accepted = AcceptedChart::read(chart)?;
+    let n = accepted.shape.n;
     if buffer.len() < n * n {
-        return MatrixAnswer::Refused(refusal::of_lent(14));
+        return Err(Refusal::of_lent(14));
     }
-    let settled = classes::work_out(chart, shape, buffer);
-    MatrixAnswer::Given(Matrix {
+    let settled = classes::work_out(&accepted, buffer);
+    Ok(Matrix {
         states: n,
         rounds: settled.rounds,
     })

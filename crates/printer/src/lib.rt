@@ -8,35 +8,29 @@ ghost use Rattle.printer.specs.Filled.{KeptBefore, TakenFrom, ToTheEnd, Within};
 ghost use Rattle.printer.specs.Printed.{PrintsFile, Reports, no_file_text};
 
 use arrayvec::ArrayString;
-use lent::LentAnswer;
 use std::fmt::Write as FormatWrite;
 use std::fs::File;
 use std::io;
 use std::io::{Read, Write};
 use std::rt::Files;
 
-// How many bytes stand in a buffer's start; or the file cannot be read.
-#[derive(Drop)]
-pub enum Filled {
-    Bytes(usize),
-    Unreadable,
-}
-
-// Reads on from a place until the buffer is full or the file ends. The bytes before the place stay, so pieces stand one after another.
-fn fill<R: Read>(file: &mut R, bytes: &mut [u8], at: usize) -> Filled
+// Reads on from a place until the buffer is full or the file ends, and answers how many bytes stand in the buffer then. The bytes before the place stay,
+// so pieces stand one after another.
+fn fill<R: Read>(file: &mut R, bytes: &mut [u8], at: usize) -> io::Result<usize>
     ensures within { Within at (length bytes.new) result }
     ensures kept_before { KeptBefore at bytes.old bytes.new }
     ensures taken { TakenFrom (R.remaining file.old) (R.remaining file.new) at bytes.new result }
     ensures to_the_end { ToTheEnd (R.remaining file.new) (length bytes.new) result }
 {
-    if bytes.len() <= at {
-        return Filled::Bytes(bytes.len());
+    let mut end = at;
+    while end < bytes.len() {
+        let more = file.read(&mut bytes[end..])?;
+        if more == 0 {
+            return Ok(end);
+        }
+        end += more;
     }
-    match file.read(&mut bytes[at..]) {
-        Err(_) => Filled::Unreadable,
-        Ok(0) => Filled::Bytes(at),
-        Ok(more) => fill(file, bytes, at + more),
-    }
+    Ok(bytes.len())
 }
 
 // std puts the number of an error after its words.
@@ -66,8 +60,8 @@ fn print_report<W: Write>(out: &mut W, bytes: &[u8]) -> io::Result<()>
 {
     let mut text = [0u8; 20480];
     match report::report(bytes, &mut text) {
-        LentAnswer::Written(length) => out.write_all(&text[..length]),
-        LentAnswer::Refused(_) => unreachable!(),
+        Ok(length) => out.write_all(&text[..length]),
+        Err(_) => unreachable!(),
     }
 }
 
@@ -77,17 +71,15 @@ fn print_file<R: Read, W: Write>(file: &mut R, out: &mut W) -> io::Result<()>
 {
     let mut bytes = [0u8; 4096];
     match fill(file, &mut bytes, 0) {
-        Filled::Unreadable => no_file(out),
-        Filled::Bytes(size) => print_report(out, &bytes[..size]),
+        Ok(size) => print_report(out, &bytes[..size]),
+        Err(_) => no_file(out),
     }
 }
 
 // The file of this name, where it can be opened. std opens only a name that is text in UTF-8.
 fn open<R: Files>(rt: &R, path: &[u8]) -> Option<R::File> {
-    match str::from_utf8(path) {
-        Ok(name) => File::open(rt, name).ok(),
-        Err(_) => None,
-    }
+    let name = str::from_utf8(path).ok()?;
+    File::open(rt, name).ok()
 }
 
 // Prints the report on the chart in the file of this name; `no file` where it cannot be opened or read. A text that cannot be written is told on

@@ -11,9 +11,8 @@ use Rattle.sheet.specs.Formula.{Formula}
 use Rattle.sheet.specs.Solution.{Satisfies, SheetRounds, applications}
 use Rattle.words.specs.Words.{member}
 use Rattle.solve.specs.declared.Solved.{Solved}
-use Rattle.solve.specs.declared.PropertyAnswer.{PropertyAnswer}
-use Rattle.solve.specs.declared.PropertyAnswer.TheVariants.{Satisfied, Refused}
 use Rattle.property.specs.SheetPromise.{SheetPromise}
+use Rattle.std.specs.Prelude.{Result, Ok, Err}
 
 -- the word has a bit for exactly the states that satisfy the sheet, the count is how many they are, the rounds are the least k such that k
 -- applications equal k + 1
@@ -29,9 +28,9 @@ pub record Unsettled (c : Chart) (kind : ℕ) (f : Formula) (r : Refusal) : Type
   pub refusal_is : r ≡ lent_refusal 15
   pub none_settled : (k : ℕ) → k ≤ 4096 → Settled (below (states c)) (applications c kind f) k → ⊥
 
-abbrev pub Answers : Chart → ℕ → Formula → PropertyAnswer → Type 0
-Answers c kind f (Satisfied a) = Solution c kind f a
-Answers c kind f (Refused r) = Unsettled c kind f r
+abbrev pub Answers : Chart → ℕ → Formula → Result Solved Refusal → Type 0
+Answers c kind f (Ok a) = Solution c kind f a
+Answers c kind f (Err r) = Unsettled c kind f r
 
-abbrev pub PropertyPromise : List ℕ → List ℕ → PropertyAnswer → Type 0
-PropertyPromise = SheetPromise Refused Answers
+abbrev pub PropertyPromise : List ℕ → List ℕ → Result Solved Refusal → Type 0
+PropertyPromise = SheetPromise Err Answers

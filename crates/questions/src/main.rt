@@ -1,19 +1,16 @@
 // Document 01's boards and edges on the questions, and worked examples of the source documents: what is printed is held to the file stdout.
 #![tactic(auto)]
 
-use both_solutions::BothAnswer;
-use equal::EqualAnswer;
-use lent::LentAnswer;
 use refusal::Refusal;
-use relation::MatrixAnswer;
-use solve::{PropertyAnswer, Solved};
+use relation::Matrix;
+use solve::Solved;
 use std::io;
 
 fn refused(rt: &impl Print, r: Refusal) -> io::Result<()> {
     let number = r.number;
     let place = r.place;
     let byte = r.byte;
-    let input = refusal::input_number(r.input);
+    let input = u8::from(r.input);
     println!(rt; "refused {input} {number} {place} {byte}")
 }
 
@@ -26,19 +23,19 @@ fn show_solved(rt: &impl Print, solved: Solved) -> io::Result<()> {
 
 fn show_property(rt: &impl Print, chart: &[u8], sheet: &[u8]) -> io::Result<()> {
     match property::property(chart, sheet) {
-        PropertyAnswer::Satisfied(solved) => show_solved(rt, solved),
-        PropertyAnswer::Refused(r) => refused(rt, r),
+        Ok(solved) => show_solved(rt, solved),
+        Err(r) => refused(rt, r),
     }
 }
 
 // The least solution, then the greatest.
 fn show_both(rt: &impl Print, chart: &[u8], sheet: &[u8]) -> io::Result<()> {
     match both_solutions::both_solutions(chart, sheet) {
-        BothAnswer::Both(solutions) => {
+        Ok(solutions) => {
             show_solved(rt, solutions.least)?;
             show_solved(rt, solutions.greatest)
         }
-        BothAnswer::Refused(r) => refused(rt, r),
+        Err(r) => refused(rt, r),
     }
 }
 
@@ -56,23 +53,26 @@ fn show_cells(rt: &impl Print, cells: &[u8], n: usize) -> io::Result<()> {
     Ok(())
 }
 
-fn show_matrix(rt: &impl Print, states: usize, rounds: usize, cells: &[u8]) -> io::Result<()> {
-    println!(rt; "states, rounds: {states} {rounds}")?;
-    show_cells(rt, cells, states)
+fn show_matrix(rt: &impl Print, answer: Result<Matrix, Refusal>, cells: &[u8]) -> io::Result<()> {
+    match answer {
+        Ok(matrix) => {
+            let states = matrix.states;
+            let rounds = matrix.rounds;
+            println!(rt; "states, rounds: {states} {rounds}")?;
+            show_cells(rt, cells, states)
+        }
+        Err(r) => refused(rt, r),
+    }
 }
 
 fn show_marks(rt: &impl Print, chart: &[u8], cells: &mut [u8]) -> io::Result<()> {
-    match marks::marks(chart, cells) {
-        MatrixAnswer::Given(matrix) => show_matrix(rt, matrix.states, matrix.rounds, cells),
-        MatrixAnswer::Refused(r) => refused(rt, r),
-    }
+    let answer = marks::marks(chart, cells);
+    show_matrix(rt, answer, cells)
 }
 
 fn show_simulation(rt: &impl Print, chart: &[u8], cells: &mut [u8]) -> io::Result<()> {
-    match simulation::simulation(chart, cells) {
-        MatrixAnswer::Given(matrix) => show_matrix(rt, matrix.states, matrix.rounds, cells),
-        MatrixAnswer::Refused(r) => refused(rt, r),
-    }
+    let answer = simulation::simulation(chart, cells);
+    show_matrix(rt, answer, cells)
 }
 
 // Every word of the array.
@@ -83,10 +83,10 @@ fn show_words(rt: &impl Print, words: &[u64; 64]) -> io::Result<()> {
     println!(rt)
 }
 
-fn show_counted(rt: &impl Print, what: &str, answer: EqualAnswer) -> io::Result<()> {
+fn show_counted(rt: &impl Print, what: &str, answer: Result<usize, Refusal>) -> io::Result<()> {
     match answer {
-        EqualAnswer::Counted(counted) => println!(rt; "{what}: {counted}"),
-        EqualAnswer::Refused(r) => refused(rt, r),
+        Ok(counted) => println!(rt; "{what}: {counted}"),
+        Err(r) => refused(rt, r),
     }
 }
 
@@ -200,8 +200,8 @@ fn show_form(
     buffer: &mut [u8],
 ) -> io::Result<()> {
     match short_form::short_form(chart, sheet, name, buffer) {
-        LentAnswer::Written(written) => println!(rt; "written {written}"),
-        LentAnswer::Refused(r) => refused(rt, r),
+        Ok(written) => println!(rt; "written {written}"),
+        Err(r) => refused(rt, r),
     }
 }
 

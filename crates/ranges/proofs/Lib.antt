@@ -1,3 +1,4 @@
 pub mod Counting
 pub mod Ranges
+pub mod Rising
 pub mod Determined

@@ -1,7 +1,10 @@
 -- Where the steps of a state stand among the triples of a chart of n states, which lie from `at` on.
-use Rattle.std.specs.Prelude.{ℕ, ◌+◌, ◌*◌, ◌≤◌, ◌<◌, ◌≡◌, List, length, get_or}
+use Rattle.std.specs.Prelude.{ℕ, ◌+◌, ◌*◌, ◌≤◌, ◌<◌, ◌≡◌, Bool, true, false, Ok, List, length, get_or}
+use Rattle.std.proofs.Math.Bool.{So}
 use Rattle.chart.specs.Chart.{Step}
-use Rattle.chart.specs.Reading.{steps_at}
+use Rattle.chart.specs.Layout.{Earlier}
+use Rattle.chart.specs.Reading.{step_at, steps_at, read_chart}
+use Rattle.chart.specs.declared.Shape.{Shape}
 
 abbrev pub source_at : List ℕ → ℕ → ℕ → ℕ
 source_at bytes at i = get_or bytes (at + 3 * i) 0
@@ -42,3 +45,19 @@ pub record Sorted (bytes : List ℕ) (at n : ℕ) (first : List ℕ) : Type 0 wh
 -- the chart's steps, where `first` has their sources
 abbrev pub steps_by : List ℕ → ℕ → ℕ → List ℕ → List Step
 steps_by bytes at n first = steps_at bytes at (get_or first n 0)
+
+-- the triples from `at` on rise: by source, then action, then target
+abbrev pub TriplesRise : List ℕ → ℕ → ℕ → Type 0
+TriplesRise bytes at t = (i j : ℕ) → i < j → j < t → Earlier (step_at bytes (at + 3 * i)) (step_at bytes (at + 3 * j))
+
+-- the triples of the chart in the bytes, whose counts are those of the shape, with their sources
+pub record Ranged (bytes : List ℕ) (sh : Shape) (at : ℕ) (first : List ℕ) : Type 0 where
+  pub read : read_chart bytes ≡ Ok sh
+  pub at_is : at ≡ 4 + sh.n + sh.m
+  pub sorted : Sorted bytes at sh.n first
+  pub all_are : get_or first sh.n 0 ≡ sh.t
+
+-- the answer says whether each triple of s that bears the action leads to a state that passes
+abbrev pub Leads : List ℕ → ℕ → List ℕ → ℕ → ℕ → (ℕ → Bool) → Bool → Type 0
+Leads bytes at first s action passes true = (i : ℕ) → get_or first s 0 ≤ i → i < get_or first (s + 1) 0 → action_at bytes at i ≡ action → So (passes (target_at bytes at i))
+Leads bytes at first s action passes false = (i : ℕ) × (get_or first s 0 ≤ i) × (i < get_or first (s + 1) 0) × (action_at bytes at i ≡ action) × (So (passes (target_at bytes at i)) → ⊥)

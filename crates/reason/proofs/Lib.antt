@@ -6,3 +6,4 @@ pub mod Order
 pub mod Own
 pub mod Few
 pub mod Determined
+pub mod Marks

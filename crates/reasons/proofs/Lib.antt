@@ -3,3 +3,4 @@ pub mod Begun
 pub mod Owed
 pub mod Promise
 pub mod Written
+pub mod Room

@@ -1,10 +1,10 @@
 -- Cells linked by their marks, one more at a time, from the last to the first.
-use Prim.Native.Nat.{ℕ, ◌+◌, ◌≤◌, ◌<◌}
+use Prim.Native.Nat.{ℕ, ◌+◌, ◌-◌, ◌≤◌, ◌<◌}
 use mathlib.Core.Path.{◌≡◌, refl, sym, ◌∙◌}
 use mathlib.Core.List.{List}
 use native.Mathlib.Omega.{arith}
 use native.Mathlib.Decide.{ℕ_discrete}
-use lib.ListN.{length, get_or, set}
+use lib.ListN.{length, get_or, set, length-set}
 use lib.Seq.{get_or-set_same, get_or-set_other}
 use Rattle.reasons.specs.Linked.{Following, Linked}
 
@@ -50,3 +50,10 @@ module _ (matrix : List ℕ) (cells : ℕ) where
 
         next_other : (z : ℕ) → y ≤ z → z < cells → (z ≡ y → ⊥) → Following matrix cells (get_or matrix z 0) (z + 1) (get_or (set next y (get_or head (get_or matrix y 0) 0)) z 0)
         next_other z l h f = rw (get_or-set_other next y z (get_or head (get_or matrix y 0) 0) 0 f) (w.nexts z (omega arith) h)
+
+-- the cell before y linked too
+pub linked_one : (matrix : List ℕ) (cells : ℕ) (head next : List ℕ) (y mark : ℕ) → 0 < y → y ≤ 4096 → mark ≡ get_or matrix (y - 1) 0 → mark < 64 → length head ≡ 64 → length next ≡ 4096 → Linked matrix cells y head next
+    → (length (set head mark (y - 1)) ≡ 64) × (length (set next (y - 1) (get_or head mark 0)) ≡ 4096) × Linked matrix cells (y - 1) (set head mark (y - 1)) (set next (y - 1) (get_or head mark 0))
+linked_one matrix cells head next y mark some few e small h k w =
+    let back : y - 1 + 1 ≡ y = omega arith in
+    (length-set head mark (y - 1) ∙ h, length-set next (y - 1) _ ∙ k, rw e (linked_more matrix cells (y - 1) head next (rw back w) (omega arith) (omega arith) (omega arith) (omega arith)))

@@ -15,7 +15,6 @@ use Rattle.nearness.specs.Bisimulation.{Bisimilar}
 use Rattle.nearness.specs.Mark.{Mark}
 use Rattle.nearness.proofs.Mark.{mark_unique}
 use Rattle.nearness.proofs.Rounds.{equal_iff}
-use Rattle.lent.specs.declared.LentAnswer.TheVariants.{Written}
 use Rattle.reason.specs.Line.{Line}
 use Rattle.reason.specs.Good.{Listed, Good}
 use Rattle.reason.specs.Spelled.{spelled}
@@ -23,11 +22,11 @@ use Rattle.reason.proofs.Spelled.{good_told}
 use Rattle.reason.proofs.Spelled as Spells
 use Rattle.reason.proofs.Own.{own_good, own_depth}
 use Rattle.check_reasons.specs.Promise.{CheckPromise}
-use Rattle.check_reasons.specs.declared.CheckAnswer.{CheckAnswer}
-use Rattle.check_reasons.specs.declared.CheckAnswer.TheVariants.{Accepted}
 use Rattle.check_reasons.proofs.Promise.{check_accepted_exactly}
 use Rattle.reasons.specs.Promise.{ReasonsPromise}
 use Rattle.reasons.proofs.Promise.{OwnOf, told}
+use Rattle.std.specs.Prelude.{Result, Ok}
+use Rattle.refusal.specs.declared.Refusal.{Refusal}
 
 -- `told` gives the lines that were written, and that they are the chart's own list
 module _ (chart : List ℕ) (lines : List Line) (o : OwnOf chart lines) where
@@ -64,7 +63,7 @@ module _ (chart : List ℕ) (lines : List Line) (o : OwnOf chart lines) where
   )
 
 -- the check accepts what was written, and the number answered is that of its lines, of five bytes each
-pub own_accepted : (chart old new : List ℕ) (size : ℕ) → ReasonsPromise chart old new (Written size) → (answer : CheckAnswer) → CheckPromise chart (take size new) answer → (lines : ℕ) × (answer ≡ Accepted lines) × (size ≡ 5 * lines)
+pub own_accepted : (chart old new : List ℕ) (size : ℕ) → ReasonsPromise chart old new (Ok size) → (answer : Result ℕ Refusal) → CheckPromise chart (take size new) answer → (lines : ℕ) × (answer ≡ Ok lines) × (size ≡ 5 * lines)
 own_accepted chart old new size p answer w =
     let t = told chart old new size p in
     let o = t.own in

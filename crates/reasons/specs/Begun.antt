@@ -7,10 +7,6 @@ use Rattle.reason.specs.Line.{Line, pair_of, lines_in}
 use Rattle.reason.specs.Good.{Listed}
 use Rattle.reason.specs.Own.{Chosen, Before, OwnList}
 
--- every mark is below the number of states
-abbrev pub MarksBelow : ℕ → List ℕ → Type 0
-MarksBelow n matrix = (y : ℕ) → y < n * n → get_or matrix y 0 < n
-
 -- the own list up to a mark and a cell: the lines of the pairs with a smaller nonzero mark, and of those with this mark whose cell is below y
 pub record Begun (n : ℕ) (steps : List Step) (mark : ℕ × ℕ → ℕ) (d y : ℕ) (lines : List Line) : Type 0 where
   pub chosen : (l : Line) → Mem l lines → Chosen n steps mark l

@@ -1,3 +1,4 @@
 pub mod Linked
 pub mod Begun
 pub mod Promise
+pub mod Marked

@@ -1,14 +1,14 @@
 -- Rows: what they have, what they keep, a strike of some of them, and those of all pairs.
 use Prim.Native.Nat.{ℕ, ◌+◌, ◌-◌, ◌^◌, ◌≤◌, ◌<◌}
-use mathlib.Core.Path.{◌≡◌, refl, sym, ap, ap₂, subst, ◌∙◌}
+use mathlib.Core.Path.{◌≡◌, refl, sym, ap, subst, ◌∙◌}
 use mathlib.Core.Bool.{Bool, true, false, So}
-use mathlib.Core.List.{List}
+use mathlib.Core.List.{List, ◌++◌}
 use native.Mathlib.Omega.{arith}
 use native.Mathlib.Decide.{dec_le, ℕ_discrete}
 use borrow.Author.Tests.{ne_eqb}
 use lib.Bits.{bit_and, and_le_l}
-use lib.Count.{count_trailing_zeros}
-use lib.ListN.{length, get_or, set, replicate}
+use lib.ListN.{length, get_or, set, replicate, take, drop}
+use Rattle.std.proofs.lemmas.List.{length-take-le, length-replicate, get_or_append_left, get_or-replicate, get_or-append_right, get_or-drop}
 use lib.Pow.{pow_pos}
 use lib.Seq.{get_or-set_same, get_or-set_other}
 use Rattle.settle.specs.Test.{both, either, implies}
@@ -17,7 +17,9 @@ use Rattle.settle.proofs.Test.{never}
 use Rattle.words.specs.Words.{member}
 use Rattle.words.proofs.Words.{no_member, all_word, word_member, none_member}
 use Rattle.steps.proofs.Filling.{blank}
-use Rattle.steps.proofs.Bits.{and_member, and_twice, lowest_or_rest, lowest_in}
+use Rattle.words.specs.Members.{Lowest}
+use Rattle.words.proofs.Bits.{and_member}
+use Rattle.words.proofs.Lowest.{lowest_or_rest, lowest_out}
 use Rattle.nearness.specs.Relation.{Relation}
 use Rattle.relation.specs.Rows.{in_rows, Within, Holds, Keeps, struck}
 
@@ -69,24 +71,18 @@ module _ {n : ℕ} where
 
 -- ---- a strike
 
-pub struck_none : (p row kept : ℕ) → struck (member 0 p) row kept ≡ row
-struck_none p row kept = ap (λ (b : Bool). struck b row kept) (none_member p)
+-- where no member is left, all rows are struck
+pub all_struck : (left p row kept : ℕ) → left ≡ 0 → struck (member left p) row kept ≡ row
+all_struck left p row kept e = rw (e, none_member p)
 
 -- with the lowest member's row struck and the member dropped, what is struck or still to come is the same
-pub struck_walked : (rows : List ℕ) (w kept p : ℕ) → 0 < w → w < 2 ^ 64 → length rows ≡ 64 → count_trailing_zeros 64 w < 64
-    → struck (member (bit_and w (w - 1)) p) (get_or (set rows (count_trailing_zeros 64 w) (bit_and (get_or rows (count_trailing_zeros 64 w) 0) kept)) p 0) kept
-    ≡ struck (member w p) (get_or rows p 0) kept
+pub struck_walked : {w q rest : ℕ} (rows : List ℕ) (kept p : ℕ) → Lowest w q rest → length rows ≡ 64
+    → struck (member rest p) (get_or (set rows q (bit_and (get_or rows q 0) kept)) p 0) kept ≡ struck (member w p) (get_or rows p 0) kept
 unfolding either
-struck_walked rows w kept p some few size low = elim (ℕ_discrete p (count_trailing_zeros 64 w)) [
-  | yes e ↦ rw e (ap (λ (x : ℕ). struck (member (bit_and w (w - 1)) (count_trailing_zeros 64 w)) x kept) (get_or-set_same rows (count_trailing_zeros 64 w) _ 0 (omega arith))
-      ∙ twice (member (bit_and w (w - 1)) (count_trailing_zeros 64 w)) (get_or rows (count_trailing_zeros 64 w) 0)
-      ∙ sym (ap (λ (b : Bool). struck b (get_or rows (count_trailing_zeros 64 w) 0) kept) (lowest_in 64 w some few)))
-  | no f ↦ ap₂ (λ (b : Bool) (x : ℕ). struck b x kept) (sym (lowest_or_rest 64 w some few p ∙ ap (λ (b : Bool). either b (member (bit_and w (w - 1)) p)) (ne_eqb _ _ (λ e. f (sym e))))) (get_or-set_other rows (count_trailing_zeros 64 w) p _ 0 f)
+struck_walked {w} {q} {rest} rows kept p h size = elim (ℕ_discrete p q) [
+  | yes e ↦ rw (e, get_or-set_same rows q (bit_and (get_or rows q 0) kept) 0 (omega (arith, h.few)), lowest_out h, h.in_set)
+  | no f ↦ rw (get_or-set_other rows q p (bit_and (get_or rows q 0) kept) 0 f, lowest_or_rest h p, ne_eqb q p (λ e. f (sym e)))
 ]
-  where
-    twice : (b : Bool) (row : ℕ) → struck b (bit_and row kept) kept ≡ bit_and row kept
-    twice true row = and_twice row kept
-    twice false row = refl
 
 -- of the rows that it strikes, a strike keeps what is in `kept`
 pub strike_keeps : {n : ℕ} {old new : List ℕ} (hit kept : ℕ) → Within n old → ((p : ℕ) → get_or new p 0 ≡ struck (member hit p) (get_or old p 0) kept)
@@ -119,28 +115,27 @@ strike_keeps {n} {old} {new} hit kept w e =
 
 -- ---- all pairs
 
--- the first rows are that word, the others 0
-pub record Filled (word k : ℕ) (rows : List ℕ) : Type 0 where
-  pub before : (p : ℕ) → p < k → get_or rows p 0 ≡ word
-  pub after : (p : ℕ) → k ≤ p → get_or rows p 0 ≡ 0
-
-pub filled_none : (word size : ℕ) → Filled word 0 (replicate size 0)
-filled_none word size = record { before = λ p h. absurd (omega arith); after = λ p h. blank size p }
-
-pub filled_more : {word k : ℕ} {rows : List ℕ} → Filled word k rows → k < length rows → Filled word (k + 1) (set rows k word)
-filled_more {word} {k} {rows} f room =
-    record {
-      before = λ p h. elim (ℕ_discrete p k) [ yes e ↦ rw e (get_or-set_same rows k word 0 room) | no g ↦ get_or-set_other rows k p word 0 g ∙ f.before p (omega arith) ];
-      after = λ p h. get_or-set_other rows k p word 0 (λ e. omega arith) ∙ f.after p (omega arith);
-    }
-
-pub filled_holds : {n : ℕ} {rows : List ℕ} → Filled (2 ^ n - 1) n rows → Holds n full rows
+-- where the first rows are all states and the others none
+pub all_holds : (n : ℕ) (rows : List ℕ) → ((p : ℕ) → p < n → get_or rows p 0 ≡ 2 ^ n - 1) → ((p : ℕ) → n ≤ p → get_or rows p 0 ≡ 0) → Holds n full rows
 unfolding full
-filled_holds {n} {rows} f =
+all_holds n rows before after =
     record {
       within = record {
-        no_row_above = f.after;
-        no_bit_above = λ p. elim (dec_le n p) [ yes l ↦ omega (arith, f.after p l, pow_pos n) | no g ↦ omega (arith, f.before p (omega arith), pow_pos n) ];
+        no_row_above = after;
+        no_bit_above = λ p. elim (dec_le n p) [ yes l ↦ omega (arith, after p l, pow_pos n) | no g ↦ omega (arith, before p (omega arith), pow_pos n) ];
       };
-      bits = λ p q i j. ap (λ (x : ℕ). member x q) (f.before p i ∙ sym (all_word n)) ∙ word_member n q (λ x. true) j;
+      bits = λ p q i j. ap (λ (x : ℕ). member x q) (before p i ∙ sym (all_word n)) ∙ word_member n q (λ x. true) j;
     }
+
+pub all_filled : (n all : ℕ) {filled : List ℕ} → n ≤ 64 → all ≡ 2 ^ n - 1 → filled ≡ replicate (length (take n (replicate {A = ℕ} 64 0))) all → Holds n full (filled ++ drop n (replicate 64 0))
+all_filled n all few e f =
+    let size : length (take n none) ≡ n = length-take-le n none (omega (arith, length-replicate {A = ℕ} 64 0)) in
+    rw (f, size, e) (all_holds n (first ++ drop n none)
+    (λ p h. get_or_append_left first (drop n none) 0 p (omega (arith, length-replicate n (2 ^ n - 1))) ∙ get_or-replicate n p (2 ^ n - 1) 0 h)
+    (λ p h. get_or-append_right first (drop n none) n p 0 (length-replicate n (2 ^ n - 1)) h ∙ get_or-drop n none (p - n) 0 ∙ blank 64 (n + (p - n))))
+  where
+    none : List ℕ
+    none = replicate 64 0
+
+    first : List ℕ
+    first = replicate n (2 ^ n - 1)

@@ -1,8 +1,6 @@
 // A relation on a chart's states, one word a row: the layer below marks, simulation and the equal pairs, whose functions ask what an accepted chart
-// gives; and the answer that goes with a matrix.
+// gives; and what is said of a matrix.
 #![tactic(auto)]
-
-use refusal::Refusal;
 
 pub mod rows;
 
@@ -18,11 +16,4 @@ pub struct Settled {
 pub struct Matrix {
     pub states: usize,
     pub rounds: usize,
-}
-
-// The answer to marks and to simulation.
-#[derive(Drop)]
-pub enum MatrixAnswer {
-    Given(Matrix),
-    Refused(Refusal),
 }

@@ -4,14 +4,11 @@ use mathlib.Core.Path.{◌≡◌, refl, ap, sym, subst, ◌∙◌}
 use mathlib.Core.List.{List}
 use native.Mathlib.Omega.{arith}
 use lib.ListN.{length, take}
-use lib.Seq.{take_at}
 use Rattle.settle.specs.Finite.{pairs}
 use Rattle.settle.proofs.Chain.{rounds_unique}
 use Rattle.refusal.specs.declared.Refusal.{Refusal}
 use Rattle.chart.specs.Reading.{read_chart, chart_in}
 use Rattle.chart.specs.declared.Shape.{Shape}
-use Rattle.chart.specs.declared.ChartRead.{ChartRead}
-use Rattle.chart.specs.declared.ChartRead.TheVariants as Read
 use Rattle.chart.proofs.Accepted.{accepted}
 use Rattle.chart.proofs.Refused as Refusals
 use Rattle.nearness.specs.Relation.{Near}
@@ -20,23 +17,20 @@ use Rattle.nearness.proofs.Rounds.{near_rounds_le, mark_le}
 use Rattle.ranges.proofs.Ranges.{stands_chart, targets_below}
 use Rattle.relation.specs.Promise.{byte_at, Answers}
 use Rattle.relation.specs.declared.Matrix.{Matrix}
-use Rattle.relation.specs.declared.MatrixAnswer.{MatrixAnswer}
-use Rattle.relation.specs.declared.MatrixAnswer.TheVariants as Answer
 use Rattle.relation.proofs.Cells.{cells_few}
 use Rattle.marks.specs.Promise.{MarksOf, MarksPromise}
 use Rattle.marks.proofs.Promise.{always_answered}
-use Rattle.text.specs.Text.{placed}
 use Rattle.lent.specs.Lent.{writes, LentPromise}
-use Rattle.lent.specs.declared.LentAnswer.{LentAnswer}
 use Rattle.lent.proofs.Lent.{lent_determined}
 use Rattle.report.specs.Text.{refused_text, row_text, rows_text, chart_text}
 use Rattle.report.specs.Promise.{ChartReport, ReportBy, ReportOf, ReportPromise}
 use Rattle.report.specs.Page.{Made}
 use Rattle.report.proofs.Longest.{chart_most, refused_most}
+use Rattle.std.specs.Prelude.{Result, Ok, Err}
 
 -- ---- a report is short
 
-marks_small : (chart : List ℕ) (sh : Shape) → read_chart chart ≡ Read.Chart sh → {text : List ℕ} (c : ChartReport chart sh text)
+marks_small : (chart : List ℕ) (sh : Shape) → read_chart chart ≡ Ok sh → {text : List ℕ} (c : ChartReport chart sh text)
     → (c.rounds < 100) × ((p q : ℕ) → p < sh.n → q < sh.n → c.mark p q < 100)
 marks_small chart sh e c =
     let a = accepted chart sh e in
@@ -50,11 +44,11 @@ marks_small chart sh e c =
 pub report_short : (chart text : List ℕ) → ReportOf chart text → length text ≤ 18164
 report_short chart text r = go (read_chart chart) refl r
   where
-    go : (x : ChartRead) → read_chart chart ≡ x → ReportBy chart x text → length text ≤ 18164
-    go (Read.Refused f) e t =
+    go : (x : Result Shape Refusal) → read_chart chart ≡ x → ReportBy chart x text → length text ≤ 18164
+    go (Err f) e t =
         let p = Refusals.refused chart f e in
         omega (arith, ap length t, refused_most f p.of_chart p.number_few p.place_few p.byte_few)
-    go (Read.Chart sh) e c =
+    go (Ok sh) e c =
         let small = marks_small chart sh e c in
         omega (arith, ap length c.text_is, chart_most sh.n (accepted chart sh e).states_few c.mark small.1 c.rounds small.0)
 
@@ -84,9 +78,9 @@ module _ (n : ℕ) (mark mark' : ℕ → ℕ → ℕ) (same : (p q : ℕ) → p 
 pub report_unique : (chart t u : List ℕ) → ReportOf chart t → ReportOf chart u → t ≡ u
 report_unique chart t u a b = go (read_chart chart) a b
   where
-    go : (x : ChartRead) → ReportBy chart x t → ReportBy chart x u → t ≡ u
-    go (Read.Refused r) e f = e ∙ sym f
-    go (Read.Chart sh) c d =
+    go : (x : Result Shape Refusal) → ReportBy chart x t → ReportBy chart x u → t ≡ u
+    go (Err r) e f = e ∙ sym f
+    go (Ok sh) c d =
         let steps = (chart_in chart sh).steps in
         c.text_is
         ∙ chart_same sh.n c.mark d.mark (λ p q hp hq. mark_unique steps p q _ _ (c.marks_are p q hp hq) (d.marks_are p q hp hq)) c.rounds d.rounds
@@ -94,7 +88,7 @@ report_unique chart t u a b = go (read_chart chart) a b
         ∙ sym d.text_is
 
 -- any two answers, and any two buffers, that the promise allows agree
-pub report_determined : (chart old new new' : List ℕ) (answer answer' : LentAnswer)
+pub report_determined : (chart old new new' : List ℕ) (answer answer' : Result ℕ Refusal)
     → ReportPromise chart old new answer → ReportPromise chart old new' answer' → (answer ≡ answer') × (new ≡ new')
 report_determined chart old new new' answer answer' p q =
     let e : p.text ≡ q.text = report_unique chart p.text q.text p.is_report q.is_report in
@@ -102,35 +96,35 @@ report_determined chart old new new' answer answer' p q =
 
 -- ---- the marks promise gives it
 
-module _ (chart old new : List ℕ) (answer : MatrixAnswer) (p : MarksPromise chart old new answer) (room : length old ≡ 4096) where
-  module _ (sh : Shape) (e : read_chart chart ≡ Read.Chart sh) where
+module _ (chart old new : List ℕ) (answer : Result Matrix Refusal) (p : MarksPromise chart old new answer) (room : length old ≡ 4096) where
+  module _ (sh : Shape) (e : read_chart chart ≡ Ok sh) where
     fits : sh.n * sh.n ≤ length old
     fits = omega (arith, cells_few sh.n (accepted chart sh e).states_few)
 
-  chart_refused : (r : Refusal) → answer ≡ Answer.Refused r → read_chart chart ≡ Read.Refused r
+  chart_refused : (r : Refusal) → answer ≡ Err r → read_chart chart ≡ Err r
   chart_refused r a = go (read_chart chart) refl
     where
-      go : (x : ChartRead) → read_chart chart ≡ x → read_chart chart ≡ Read.Refused r
-      go (Read.Refused q) e =
-          let f : answer ≡ Answer.Refused q = p.chart_refused q e in
+      go : (x : Result Shape Refusal) → read_chart chart ≡ x → read_chart chart ≡ Err r
+      go (Err q) e =
+          let f : answer ≡ Err q = p.chart_refused q e in
           let g : q ≡ r = cc in
           rw g at e
-      go (Read.Chart sh) e = absurd (always_answered chart sh e old new answer (fits sh e) p r a)
+      go (Ok sh) e = absurd (always_answered chart sh e old new answer (fits sh e) p r a)
 
-  chart_marked : (given : Matrix) → answer ≡ Answer.Given given → (sh : Shape) × (read_chart chart ≡ Read.Chart sh) × MarksOf sh.n sh.m (chart_in chart sh).steps new given
+  chart_marked : (given : Matrix) → answer ≡ Ok given → (sh : Shape) × (read_chart chart ≡ Ok sh) × MarksOf sh.n sh.m (chart_in chart sh).steps new given
   chart_marked given a = go (read_chart chart) refl
     where
-      go : (x : ChartRead) → read_chart chart ≡ x → (sh : Shape) × (read_chart chart ≡ Read.Chart sh) × MarksOf sh.n sh.m (chart_in chart sh).steps new given
-      go (Read.Refused q) e =
-          let f : answer ≡ Answer.Refused q = p.chart_refused q e in
+      go : (x : Result Shape Refusal) → read_chart chart ≡ x → (sh : Shape) × (read_chart chart ≡ Ok sh) × MarksOf sh.n sh.m (chart_in chart sh).steps new given
+      go (Err q) e =
+          let f : answer ≡ Err q = p.chart_refused q e in
           let z : ◌≡◌ {A = ℕ} 0 1 = cc in
           absurd (omega arith)
-      go (Read.Chart sh) e = (sh, e, subst (λ (x : MatrixAnswer). Answers MarksOf Near chart sh new x) a (p.then_answered sh e (fits sh e)))
+      go (Ok sh) e = (sh, e, subst (λ (x : Result Matrix Refusal). Answers MarksOf Near chart sh new x) a (p.then_answered sh e (fits sh e)))
 
-  pub report_refused : (r : Refusal) → answer ≡ Answer.Refused r → ReportOf chart (refused_text r)
+  pub report_refused : (r : Refusal) → answer ≡ Err r → ReportOf chart (refused_text r)
   report_refused r a = rw (chart_refused r a) refl
 
-  pub report_marked : (given : Matrix) → answer ≡ Answer.Given given → ReportOf chart (chart_text given.states given.rounds (byte_at given.states new))
+  pub report_marked : (given : Matrix) → answer ≡ Ok given → ReportOf chart (chart_text given.states given.rounds (byte_at given.states new))
   report_marked given a =
       let m = chart_marked given a in
       rw m.1 (record {
@@ -142,21 +136,14 @@ module _ (chart old new : List ℕ) (answer : MatrixAnswer) (p : MarksPromise ch
       })
 
   -- and its matrix is inside the buffer
-  pub states_marked : (given : Matrix) → answer ≡ Answer.Given given → (given.states ≤ 64) × (given.states * given.states ≤ length new)
+  pub states_marked : (given : Matrix) → answer ≡ Ok given → (given.states ≤ 64) × (given.states * given.states ≤ length new)
   states_marked given a =
       let m = chart_marked given a in
       let few : given.states ≤ 64 = omega (arith, m.2.states_said, (accepted chart m.0 m.1).states_few) in
       (few, omega (arith, cells_few given.states few, p.length_stays))
 
--- ---- on a page
-
-pub made : (chart old : List ℕ) (text : List ℕ) {size : ℕ} {page : List ℕ} → ReportOf chart text → (size ≡ length text) × (page ≡ placed old 0 text) → Made chart size page
-unfolding placed
-made chart old text r p =
-    record { text = text; is_report = r; size_is = p.0; stands = rw p.1 (take_at text _ _ (sym p.0)) }
-
 -- ---- in the lent buffer
 
-pub promised : (chart old new : List ℕ) (answer : LentAnswer) {size : ℕ} {page : List ℕ} → Made chart size page
+pub promised : (chart old new : List ℕ) (answer : Result ℕ Refusal) {size : ℕ} {page : List ℕ} → Made chart size page
     → LentPromise (writes (take size page)) old new answer → ReportPromise chart old new answer
 promised chart old new answer m p = record { text = m.text; is_report = m.is_report; in_buffer = rw m.stands at p }

@@ -12,11 +12,13 @@ use Rattle.sheet.specs.Formula.{Formula, nodes}
 use Rattle.sheet.specs.Layout.{formula_bytes, encode, longest_sheet, WellFormed}
 use Rattle.sheet.specs.WithKind.{with_kind}
 use Rattle.sheet.specs.Reading.{parsed, parse, Sheet, sheet, refused, read_nodes, read_sheet, sheet_read, AcceptedExactly}
+use Rattle.sheet.specs.Kinds.{kind_number, kind_of}
+use Rattle.sheet.specs.declared.Kind.{Kind}
 use Rattle.sheet.specs.declared.Outline.{Outline}
-use Rattle.sheet.specs.declared.SheetRead.{SheetRead}
-use Rattle.sheet.specs.declared.SheetRead.TheVariants as Read
+use Rattle.sheet.proofs.KindBytes.{kind_back, number_back}
 use Rattle.sheet.proofs.Found.{FaultBy, nodes_positive, bytes_few, formula_found, SheetAt, SheetFound, sheet_found}
 use Rattle.sheet.proofs.Written.{formula_written}
+use Rattle.std.specs.Prelude.{Result, Ok, Err}
 
 -- ---- what the reader's answer says
 
@@ -29,24 +31,24 @@ pub record Formed (s : List ℕ) (m : ℕ) (o : Outline) : Type 0 where
   pub formula : Formula
   pub after : ℕ
   pub parsed_is : parse o.nodes s m 3 o.nodes ≡ parsed formula after 0
-  pub read_is : read_sheet s m ≡ sheet o.kind o.nodes formula
-  pub kind_known : o.kind ≤ 2
+  pub read_is : read_sheet s m ≡ sheet (kind_number o.kind) o.nodes formula
+  pub kind_known : kind_number o.kind ≤ 2
   pub nodes_few : o.nodes ≤ 200
   pub whole : length s ≡ after
 
-pub formed : (s : List ℕ) (m : ℕ) (o : Outline) → sheet_read (read_sheet s m) ≡ Read.Sheet o → Formed s m o
+pub formed : (s : List ℕ) (m : ℕ) (o : Outline) → sheet_read (read_sheet s m) ≡ Ok o → Formed s m o
 formed s m o e = go (read_sheet s m) refl e
   where
     recount : {a b after : ℕ} {f : Formula} → a ≡ b → parse a s m 3 a ≡ parsed f after 0 → parse b s m 3 b ≡ parsed f after 0
     recount e h = rw e at h
 
-    go : (x : Sheet) → read_sheet s m ≡ x → sheet_read x ≡ Read.Sheet o → Formed s m o
+    go : (x : Sheet) → read_sheet s m ≡ x → sheet_read x ≡ Ok o → Formed s m o
     go (refused r) q e = let z : ◌≡◌ {A = ℕ} 0 1 = cc in absurd (omega arith)
     go (sheet kind count f) q e =
-        let same : ◌≡◌ {A = Outline} (record { kind = kind; nodes = count }) o = cc in
-        let k : kind ≡ o.kind = ap (λ (x : Outline). x.kind) same in
-        let c : count ≡ o.nodes = ap (λ (x : Outline). x.nodes) same in
+        let same : ◌≡◌ {A = Outline} (record { kind = kind_of kind; nodes = count }) o = cc in
         let here = sheet_at s m kind count f q in
+        let k : kind ≡ kind_number o.kind = sym (kind_back kind here.kind_known) ∙ ap (λ (x : Outline). kind_number x.kind) same in
+        let c : count ≡ o.nodes = ap (λ (x : Outline). x.nodes) same in
         let found = formula_found count s m 3 count f here.after 0 here.formula_is in
         record {
           formula = f;
@@ -58,10 +60,10 @@ formed s m o e = go (read_sheet s m) refl e
           whole = omega (arith, here.ends, found.stands.inside);
         }
 
-pub refused_exactly : (s : List ℕ) (m : ℕ) (r : Refusal) → (sheet_read (read_sheet s m) ≡ Read.Refused r) ↔ (read_sheet s m ≡ refused r)
+pub refused_exactly : (s : List ℕ) (m : ℕ) (r : Refusal) → (sheet_read (read_sheet s m) ≡ Err r) ↔ (read_sheet s m ≡ refused r)
 refused_exactly s m r = (go (read_sheet s m), λ e. ap sheet_read e)
   where
-    go : (x : Sheet) → sheet_read x ≡ Read.Refused r → x ≡ refused r
+    go : (x : Sheet) → sheet_read x ≡ Err r → x ≡ refused r
     go (refused q) e = cc
     go (sheet kind count f) e = let z : ◌≡◌ {A = ℕ} 0 1 = cc in absurd (omega arith)
 
@@ -141,18 +143,20 @@ pub read_count : (s : List ℕ) (m kind count : ℕ) (f : Formula) → read_shee
 read_count s m kind count f e = (layout_read s m kind count f e).2
 
 -- what the reader promises of its bytes
-pub read_exactly : (s : List ℕ) (m : ℕ) {answer : SheetRead} → answer ≡ sheet_read (read_sheet s m) → (answer ≡ sheet_read (read_sheet s m)) × AcceptedExactly s m answer
+pub read_exactly : (s : List ℕ) (m : ℕ) {answer : Result Outline Refusal} → answer ≡ sheet_read (read_sheet s m) → (answer ≡ sheet_read (read_sheet s m)) × AcceptedExactly s m answer
 read_exactly s m {answer} e = (e, λ few o. (forth o, back few o))
   where
-    forth : (o : Outline) → answer ≡ Read.Sheet o → (f : Formula) × (nodes f ≡ o.nodes) × (s ≡ encode o.kind f) × WellFormed m o.kind f
+    forth : (o : Outline) → answer ≡ Ok o → (f : Formula) × (nodes f ≡ o.nodes) × (s ≡ encode (kind_number o.kind) f) × WellFormed m (kind_number o.kind) f
     forth o h =
         let F = formed s m o (sym e ∙ h) in
-        let q = layout_read s m o.kind o.nodes F.formula F.read_is in
+        let q = layout_read s m (kind_number o.kind) o.nodes F.formula F.read_is in
         (F.formula, sym q.2, q.0, q.1)
 
-    back : m ≤ 32 → (o : Outline) → (f : Formula) × (nodes f ≡ o.nodes) × (s ≡ encode o.kind f) × WellFormed m o.kind f → answer ≡ Read.Sheet o
+    back : m ≤ 32 → (o : Outline) → (f : Formula) × (nodes f ≡ o.nodes) × (s ≡ encode (kind_number o.kind) f) × WellFormed m (kind_number o.kind) f → answer ≡ Ok o
     back few o (f, count, h, w) =
-        e ∙ ap sheet_read ((accepted_exactly s m few o.kind f).1 (h, w)) ∙ ap (λ (k : ℕ). Read.Sheet (record { kind = o.kind; nodes = k })) count
+        e ∙ ap sheet_read ((accepted_exactly s m few (kind_number o.kind) f).1 (h, w))
+        ∙ ap (λ (k : Kind). Ok (record { kind = k; nodes = nodes f })) (number_back o.kind)
+        ∙ ap (λ (k : ℕ). Ok (record { kind = o.kind; nodes = k })) count
 
 -- no two well-formed sheets have the same bytes
 pub same_bytes : (m : ℕ) → m ≤ 32 → (k l : ℕ) (f g : Formula) → WellFormed m k f → WellFormed m l g → encode k f ≡ encode l g → (k ≡ l) × (f ≡ g)

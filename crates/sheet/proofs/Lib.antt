@@ -1,9 +1,11 @@
 pub mod Accepted
 pub mod Beginning
 pub mod Found
+pub mod KindBytes
 pub mod Meaning
 pub mod Parsing
 pub mod Reading
 pub mod Solution
 pub mod Before
 pub mod Written
+pub mod Parts

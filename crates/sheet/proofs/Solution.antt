@@ -14,19 +14,19 @@ use Rattle.chart.specs.Chart.{Chart, states, actions}
 use Rattle.chart.specs.Layout.{WellFormed}
 use Rattle.chart.specs.Reading.{chart_in, read_chart}
 use Rattle.chart.specs.declared.Shape.{Shape}
-use Rattle.chart.specs.declared.ChartRead.TheVariants as Read
 use Rattle.chart.proofs.Accepted.{each_step}
 use Rattle.chart.proofs.Steps.{bytes_at_length}
 use Rattle.sheet.specs.Formula.{Formula, variable_free}
 use Rattle.sheet.specs.Solution.{asks_least, applied, SolutionBy, Satisfies, applications, SheetRounds}
 use Rattle.sheet.proofs.Meaning.{TargetsBelow, holds_monotone, free_same}
+use Rattle.std.specs.Prelude.{Ok}
 
 -- the steps of a chart that follows the layout stay in it
 pub targets_below : (c : Chart) → WellFormed c → TargetsBelow (states c) c.steps
 targets_below c w t m = (w.steps_in t m).target_in
 
 -- and so do those of a chart that was read
-pub read_targets : (s : List ℕ) (sh : Shape) → read_chart s ≡ Read.Chart sh → TargetsBelow (states (chart_in s sh)) (chart_in s sh).steps
+pub read_targets : (s : List ℕ) (sh : Shape) → read_chart s ≡ Ok sh → TargetsBelow (states (chart_in s sh)) (chart_in s sh).steps
 read_targets s sh e = let n = bytes_at_length s 1 sh.n in rw n (λ u i. (each_step s sh e u i).target_in)
 
 module _ (c : Chart) (targets : TargetsBelow (states c) c.steps) (f : Formula) where

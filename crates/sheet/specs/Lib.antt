@@ -1,6 +1,7 @@
 pub mod Formula
 pub mod Layout
 pub mod Meaning
+pub mod Kinds
 pub mod Reading
 pub mod Solution
 pub mod Before

@@ -1,14 +1,15 @@
 -- Reading a property sheet in document 01's order, each byte judged as read, 13 before 1, 8 and 11 at the same place. The number and the place
 -- of every refusal stand here; that a sheet is accepted exactly if it follows the layout is the law `accepted_exactly` of proofs/Accepted.antt.
-use Rattle.std.specs.Prelude.{ℕ, zero, suc, ◌+◌, ◌*◌, ◌-◌, ◌≤◌, ◌≡◌, List, ◌↔◌, length, get_or, ltb, leb, eqb}
+use Rattle.std.specs.Prelude.{ℕ, zero, suc, ◌+◌, ◌-◌, ◌≤◌, ◌≡◌, List, ◌↔◌, length, get_or, ltb, leb, eqb}
 use Rattle.settle.specs.Test.{pick}
 use Rattle.refusal.specs.Refusal.{sheet_refusal}
 use Rattle.refusal.specs.declared.Refusal.{Refusal}
 use Rattle.sheet.specs.Formula.{Label, only, every, Formula, variable, top, bottom, and, or, diamond, box, nodes}
 use Rattle.sheet.specs.Layout.{encode, WellFormed}
+use Rattle.sheet.specs.Kinds.{kind_number, kind_of}
 use Rattle.sheet.specs.declared.Outline.{Outline}
-use Rattle.sheet.specs.declared.SheetRead.{SheetRead}
-use Rattle.sheet.specs.declared.SheetRead.TheVariants as Read
+use Rattle.sheet.specs.declared.Unread.{Unread}
+use Rattle.std.specs.Prelude.{Result, Ok, Err}
 
 -- ---- a node
 
@@ -99,18 +100,17 @@ read_sheet s m =
     read_nodes s m (get_or s 1 0))))
     (refused (sheet_refusal 9 0)))
 
--- ---- what the readers say of it, in numbers
+-- ---- what the readers say of it
 
--- what is read of a formula as one number: the place after it, below 512, and 512 times the nodes still unread; or, above all of these, the refusal's
--- number and 256 times its place
-abbrev pub packed : Parsed → ℕ
-packed (parsed f at left) = at + 512 * left
-packed (wrong r) = 131072 + (r.number + 256 * r.place)
+-- what is unread after a formula, or its refusal
+abbrev pub formula_read : Parsed → Result Unread Refusal
+formula_read (parsed f at left) = Ok (record { at = at; left = left })
+formula_read (wrong r) = Err r
 
-abbrev pub sheet_read : Sheet → SheetRead
-sheet_read (sheet kind count f) = Read.Sheet (record { kind = kind; nodes = count })
-sheet_read (refused r) = Read.Refused r
+abbrev pub sheet_read : Sheet → Result Outline Refusal
+sheet_read (sheet kind count f) = Ok (record { kind = kind_of kind; nodes = count })
+sheet_read (refused r) = Err r
 
 -- for a chart of at most 32 actions, an answer accepts these bytes exactly if they are the layout of a well-formed sheet of that kind and so many nodes
-abbrev pub AcceptedExactly : List ℕ → ℕ → SheetRead → Type 0
-AcceptedExactly s m answer = m ≤ 32 → (o : Outline) → (answer ≡ Read.Sheet o) ↔ ((f : Formula) × (nodes f ≡ o.nodes) × (s ≡ encode o.kind f) × WellFormed m o.kind f)
+abbrev pub AcceptedExactly : List ℕ → ℕ → Result Outline Refusal → Type 0
+AcceptedExactly s m answer = m ≤ 32 → (o : Outline) → (answer ≡ Ok o) ↔ ((f : Formula) × (nodes f ≡ o.nodes) × (s ≡ encode (kind_number o.kind) f) × WellFormed m (kind_number o.kind) f)

@@ -1,11 +1,15 @@
 -- The pieces of a short form are the table's formula and sheet.
-use Prim.Native.Nat.{ℕ, ◌+◌, ◌≤◌}
+use Prim.Native.Nat.{ℕ, ◌+◌, ◌-◌, ◌≤◌}
+use lib.Seq.{take_all}
+use Rattle.text.specs.Text.{placed, HasRoom, Added, Puts}
+use Rattle.text.specs.declared.Page.{Page}
+use Rattle.text.proofs.Pieces.{puts_added, room_first, puts_next}
 use mathlib.Core.Path.{◌≡◌, refl, ap}
 use mathlib.Core.Bool.{Bool, true, false}
 use mathlib.Core.List.{List, [], ◌∷◌, ◌++◌}
 use native.Mathlib.Omega.{arith}
 use lib.Dec.{eqb}
-use lib.ListN.{length, drop, length-append}
+use lib.ListN.{length, take, drop, length-append, length-drop}
 use Rattle.settle.specs.Test.{pick}
 use Rattle.sheet.specs.Formula.{Formula, nodes}
 use Rattle.sheet.specs.Layout.{label_byte, formula_bytes, encode}
@@ -68,3 +72,22 @@ module _ (s : List ℕ) (kind : ℕ) (f : Formula) (e : s ≡ encode kind f) (na
       → 1 ∷ kind_written name ∷ total ∷ operator_of name ∷ (drop 3 s ++ operand_of name) ≡ encode (kind_written name) (short_form name f)
   unfolding encode
   form_encoded total t = rw (t, e, form_bytes)
+
+-- three texts, one after the other, from the start of a page
+pieces_added : (start one two three : Page) (kind total operator : ℕ) (s operand : List ℕ) → start.at ≡ 0 → 3 ≤ length s → length s + 1 + length operand ≤ length start.bytes.now
+    → Puts start (1 ∷ kind ∷ total ∷ operator ∷ []) one → Puts one (take (length s - 3) (drop 3 s)) two → Puts two operand three
+    → Added start (1 ∷ kind ∷ total ∷ operator ∷ (drop 3 s ++ operand)) three
+pieces_added start one two three kind total operator s operand begins long room p q r =
+    let head : List ℕ = 1 ∷ kind ∷ total ∷ operator ∷ [] in
+    let whole : take (length s - 3) (drop 3 s) ≡ drop 3 s = take_all (length s - 3) (drop 3 s) (omega (arith, length-drop 3 s)) in
+    let rest : Puts one (drop 3 s) two = rw whole at q in
+    let all : HasRoom start (head ++ drop 3 s ++ operand) = omega (arith, length-append (head ++ drop 3 s) operand, length-append head (drop 3 s), length-drop 3 s) in
+    let first = room_first start (head ++ drop 3 s) operand all in
+    puts_next start (head ++ drop 3 s) operand two three all (puts_next start head (drop 3 s) one two first (puts_added start head one (room_first start head (drop 3 s) first) p) rest) r
+
+pub pieces_put : (start one two three : Page) (kind total operator : ℕ) (s operand : List ℕ) → start.at ≡ 0 → 3 ≤ length s → length s + 1 + length operand ≤ length start.bytes.now
+    → Puts start (1 ∷ kind ∷ total ∷ operator ∷ []) one → Puts one (take (length s - 3) (drop 3 s)) two → Puts two operand three
+    → (three.bytes.now ≡ placed start.bytes.now 0 (1 ∷ kind ∷ total ∷ operator ∷ (drop 3 s ++ operand))) × (three.at ≡ length s + 1 + length operand)
+pieces_put start one two three kind total operator s operand begins long room p q r =
+    let all = pieces_added start one two three kind total operator s operand begins long room p q r in
+    (rw begins at all.bytes, omega (arith, all.place, length-append (drop 3 s) operand, length-drop 3 s))

@@ -3,15 +3,61 @@ use Prim.Native.Nat.{ℕ, ◌+◌, ◌<◌, ◌≤◌}
 use mathlib.Core.Path.{◌≡◌, refl}
 use mathlib.Core.Bool.{Bool, true, false}
 use mathlib.Core.List.{List}
-use borrow.Author.Tests.{lt-ltb, le-ltb, ltb-false}
+use borrow.Author.Tests.{lt-ltb, le-ltb, ltb-false, ne_eqb}
+use native.Mathlib.Omega.{arith}
+use native.Mathlib.Decide.{ℕ_discrete}
 use lib.Dec.{ltb}
 use Rattle.settle.specs.Test.{pick}
 use Rattle.refusal.specs.Refusal.{sheet_refusal, lent_refusal}
 use Rattle.sheet.specs.Formula.{Formula, variable_free, nodes}
-use Rattle.lent.specs.declared.LentAnswer.{LentAnswer}
 use Rattle.lent.proofs.Lent.{lent_determined}
 use Rattle.short_form.specs.ShortForm.{short_form, kind_written}
 use Rattle.short_form.specs.Promise.{before_variable, Form, form, wrong, form_of, ShortFormPromise}
+use Rattle.std.specs.Prelude.{Result, Ok, Err, Option, Some, None}
+use Rattle.short_form.specs.declared.Name.{Name}
+use Rattle.short_form.specs.declared.Name.TheVariants.{Always, Possible, SafePath, Eventually}
+use Rattle.short_form.specs.Pieces.{number_of, name_read}
+use Rattle.refusal.specs.declared.Refusal.{Refusal}
+
+-- ---- what was found of the formula and of the name
+
+pub has_variable : (b : Bool) (place found : ℕ) → Some found ≡ pick b None (Some place) → (b ≡ false) × (found ≡ place)
+has_variable true place found e = let z : ◌≡◌ {A = ℕ} 0 1 = cc in absurd (omega arith)
+has_variable false place found e = (refl, cc)
+
+pub has_none : (b : Bool) (place : ℕ) (found : Option ℕ) → found ≡ pick b None (Some place) → ((x : ℕ) → found ≡ Some x → ⊥) → b ≡ true
+has_none true place found e none = refl
+has_none false place found e none = absurd (none place e)
+
+pub named : (number : ℕ) (name : Name) → Ok name ≡ name_read number → number ≡ number_of name
+named number name = go (ℕ_discrete number 0) (ℕ_discrete number 1) (ℕ_discrete number 2) (ℕ_discrete number 3)
+  where
+    go : Dec (number ≡ 0) → Dec (number ≡ 1) → Dec (number ≡ 2) → Dec (number ≡ 3) → Ok name ≡ name_read number → number ≡ number_of name
+    go (yes z) o t h e = let same : name ≡ Always = (let f : ◌≡◌ {A = Result Name Refusal} (Ok name) (Ok Always) = rw z at e in cc) in rw same z
+    go (no z) (yes o) t h e = let same : name ≡ Possible = (let f : ◌≡◌ {A = Result Name Refusal} (Ok name) (Ok Possible) = rw o at e in cc) in rw same o
+    go (no z) (no o) (yes t) h e = let same : name ≡ SafePath = (let f : ◌≡◌ {A = Result Name Refusal} (Ok name) (Ok SafePath) = rw t at e in cc) in rw same t
+    go (no z) (no o) (no t) (yes h) e = let same : name ≡ Eventually = (let f : ◌≡◌ {A = Result Name Refusal} (Ok name) (Ok Eventually) = rw h at e in cc) in rw same h
+    go (no z) (no o) (no t) (no h) e =
+        let f : ◌≡◌ {A = Result Name Refusal} (Ok name) (Err (lent_refusal 17)) = rw (ne_eqb _ _ z, ne_eqb _ _ o, ne_eqb _ _ t, ne_eqb _ _ h) at e in
+        let w : ◌≡◌ {A = ℕ} 0 1 = cc in absurd (omega arith)
+
+pub name_few : (name : Name) → number_of name ≤ 3
+name_few Always = omega arith
+name_few Possible = omega arith
+name_few SafePath = omega arith
+name_few Eventually = omega arith
+
+pub unnamed : (number : ℕ) (r : Refusal) → Err r ≡ name_read number → (3 < number) × (r ≡ lent_refusal 17)
+unnamed number r = go (ℕ_discrete number 0) (ℕ_discrete number 1) (ℕ_discrete number 2) (ℕ_discrete number 3)
+  where
+    go : Dec (number ≡ 0) → Dec (number ≡ 1) → Dec (number ≡ 2) → Dec (number ≡ 3) → Err r ≡ name_read number → (3 < number) × (r ≡ lent_refusal 17)
+    go (yes z) o t h e = let f : ◌≡◌ {A = Result Name Refusal} (Err r) (Ok Always) = rw z at e in let w : ◌≡◌ {A = ℕ} 0 1 = cc in absurd (omega arith)
+    go (no z) (yes o) t h e = let f : ◌≡◌ {A = Result Name Refusal} (Err r) (Ok Possible) = rw o at e in let w : ◌≡◌ {A = ℕ} 0 1 = cc in absurd (omega arith)
+    go (no z) (no o) (yes t) h e = let f : ◌≡◌ {A = Result Name Refusal} (Err r) (Ok SafePath) = rw t at e in let w : ◌≡◌ {A = ℕ} 0 1 = cc in absurd (omega arith)
+    go (no z) (no o) (no t) (yes h) e = let f : ◌≡◌ {A = Result Name Refusal} (Err r) (Ok Eventually) = rw h at e in let w : ◌≡◌ {A = ℕ} 0 1 = cc in absurd (omega arith)
+    go (no z) (no o) (no t) (no h) e =
+        let f : ◌≡◌ {A = Result Name Refusal} (Err r) (Err (lent_refusal 17)) = rw (ne_eqb _ _ z, ne_eqb _ _ o, ne_eqb _ _ t, ne_eqb _ _ h) at e in
+        (omega arith, cc)
 
 -- ---- the cases of `form_of`
 
@@ -48,6 +94,6 @@ module _ (name : ℕ) (f : Formula) where
 
 -- ---- determined
 
-pub short_form_determined : (chart sheet : List ℕ) (name : ℕ) (old : List ℕ) {new new' : List ℕ} {answer answer' : LentAnswer}
+pub short_form_determined : (chart sheet : List ℕ) (name : ℕ) (old : List ℕ) {new new' : List ℕ} {answer answer' : Result ℕ Refusal}
     → ShortFormPromise chart sheet name old new answer → ShortFormPromise chart sheet name old new' answer' → (answer ≡ answer') × (new ≡ new')
 short_form_determined chart sheet name old p q = lent_determined _ old p q

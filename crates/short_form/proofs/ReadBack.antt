@@ -9,20 +9,18 @@ use lib.ListN.{take, drop}
 use Rattle.refusal.specs.declared.Refusal.{Refusal}
 use Rattle.chart.specs.Reading.{read_chart}
 use Rattle.chart.specs.declared.Shape.{Shape}
-use Rattle.chart.specs.declared.ChartRead.{ChartRead}
-use Rattle.chart.specs.declared.ChartRead.TheVariants as Read
 use Rattle.chart.proofs.Accepted as Chart
 use Rattle.sheet.specs.Formula.{Formula, nodes, variable_free}
 use Rattle.sheet.specs.Layout.{encode, LabelIn, LabelsIn, WellFormed}
 use Rattle.sheet.specs.Reading.{Sheet, sheet, refused, read_sheet}
 use Rattle.sheet.proofs.Accepted.{layout_read, layout_written}
 use Rattle.lent.specs.Lent.{writes, LentPromise}
-use Rattle.lent.specs.declared.LentAnswer.TheVariants.{Written, Refused}
 use Rattle.lent.proofs.Lent.{no_bytes, not_written, written_fills, refused_leaves as leaves}
 use Rattle.short_form.specs.ShortForm.{short_form, kind_written}
 use Rattle.short_form.specs.Promise.{Form, form_of, form_of_sheet, form_of_chart, outcome_of, ShortFormPromise}
 use Rattle.short_form.proofs.Pieces.{in_each}
 use Rattle.short_form.proofs.Promise.{form_cases}
+use Rattle.std.specs.Prelude.{Result, Ok, Err}
 
 -- the sheet that is written is the table's, of at most 200 nodes, and F has no variable
 abbrev IsTable : ℕ → Formula → List ℕ → Type 0
@@ -32,7 +30,7 @@ is_table : (name : ℕ) (f : Formula) (bytes : List ℕ) → outcome_of (form_of
 is_table name f bytes = form_cases name f (λ (w : Form). outcome_of w ≡ writes bytes → IsTable name f bytes) no_bytes no_bytes no_bytes (λ v h e. (cc, h, v))
 
 -- a refusal leaves every byte
-pub refused_leaves : (chart s : List ℕ) (name : ℕ) (old new : List ℕ) (r : Refusal) → ShortFormPromise chart s name old new (Refused r) → new ≡ old
+pub refused_leaves : (chart s : List ℕ) (name : ℕ) (old new : List ℕ) (r : Refusal) → ShortFormPromise chart s name old new (Err r) → new ≡ old
 refused_leaves chart s name old new r p = leaves _ old new r p
 
 -- ---- the table's sheets are well formed
@@ -49,7 +47,7 @@ kind_small name = in_each (λ k. k ≤ 2) (eqb name 0) (eqb name 1) (eqb name 2)
 -- the chart and the sheet were read; the sheet of the table fills the start of the buffer, and is read as such
 pub record ReadBack (chart s : List ℕ) (name : ℕ) (old new : List ℕ) (size : ℕ) : Type 0 where
   pub shape : Shape
-  pub chart_read : read_chart chart ≡ Read.Chart shape
+  pub chart_read : read_chart chart ≡ Ok shape
   pub kind : ℕ
   pub count : ℕ
   pub formula : Formula
@@ -60,11 +58,11 @@ pub record ReadBack (chart s : List ℕ) (name : ℕ) (old new : List ℕ) (size
   pub read_back : read_sheet (take size new) shape.m ≡ sheet (kind_written name) (nodes (short_form name formula)) (short_form name formula)
 
 pub written_read_back : (chart s : List ℕ) (name : ℕ) (old new : List ℕ) (size : ℕ)
-    → ShortFormPromise chart s name old new (Written size) → ReadBack chart s name old new size
+    → ShortFormPromise chart s name old new (Ok size) → ReadBack chart s name old new size
 written_read_back chart s name old new size p = of_chart (read_chart chart) refl p
   where
-    of_sheet : (shape : Shape) → read_chart chart ≡ Read.Chart shape → (x : Sheet) → read_sheet s shape.m ≡ x
-        → LentPromise (outcome_of (form_of_sheet name x)) old new (Written size) → ReadBack chart s name old new size
+    of_sheet : (shape : Shape) → read_chart chart ≡ Ok shape → (x : Sheet) → read_sheet s shape.m ≡ x
+        → LentPromise (outcome_of (form_of_sheet name x)) old new (Ok size) → ReadBack chart s name old new size
     of_sheet shape c (refused r) e q = not_written (sym q.answered)
     of_sheet shape c (sheet kind count f) e q =
         let done = written_fills (outcome_of (form_of name f)) old new size q in
@@ -88,6 +86,6 @@ written_read_back chart s name old new size p = of_chart (read_chart chart) refl
           read_back = rw filled (layout_written shape.m (Chart.accepted chart shape c).actions_few (kind_written name) (short_form name f) well);
         }
 
-    of_chart : (x : ChartRead) → read_chart chart ≡ x → LentPromise (outcome_of (form_of_chart s name x)) old new (Written size) → ReadBack chart s name old new size
-    of_chart (Read.Refused r) e q = not_written (sym q.answered)
-    of_chart (Read.Chart shape) e q = of_sheet shape e (read_sheet s shape.m) refl q
+    of_chart : (x : Result Shape Refusal) → read_chart chart ≡ x → LentPromise (outcome_of (form_of_chart s name x)) old new (Ok size) → ReadBack chart s name old new size
+    of_chart (Err r) e q = not_written (sym q.answered)
+    of_chart (Ok shape) e q = of_sheet shape e (read_sheet s shape.m) refl q

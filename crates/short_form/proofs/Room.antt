@@ -11,8 +11,6 @@ use Rattle.settle.specs.Test.{pick}
 use Rattle.refusal.specs.Refusal.{sheet_refusal}
 use Rattle.refusal.specs.declared.Refusal.{Refusal}
 use Rattle.chart.specs.Reading.{read_chart}
-use Rattle.chart.specs.declared.ChartRead.{ChartRead}
-use Rattle.chart.specs.declared.ChartRead.TheVariants as Read
 use Rattle.chart.proofs.Refused.{refused as chart_refused}
 use Rattle.sheet.specs.Formula.{Formula, variable_free, nodes}
 use Rattle.sheet.specs.Layout.{longest_sheet}
@@ -20,12 +18,13 @@ use Rattle.sheet.specs.Reading.{Sheet, sheet, refused, read_sheet}
 use Rattle.sheet.proofs.Found.{number_few}
 use Rattle.sheet.proofs.Accepted.{encode_short, refusal_small}
 use Rattle.lent.specs.Lent.{Outcome, writes, refuses, LentPromise}
-use Rattle.lent.specs.declared.LentAnswer.TheVariants.{Written, Refused}
 use Rattle.lent.proofs.Lent.{not_written, written_fills}
 use Rattle.short_form.specs.ShortForm.{by_name, short_form, kind_written}
 use Rattle.short_form.specs.Promise.{form, wrong, form_of, form_of_sheet, form_of_chart, outcome_of, ShortFormPromise}
 use Rattle.short_form.proofs.Pieces.{form_nodes}
 use Rattle.short_form.proofs.Promise.{form_large, form_made, form_cases}
+use Rattle.std.specs.Prelude.{Result, Ok, Err}
+use Rattle.chart.specs.declared.Shape.{Shape}
 
 -- a sheet that is no longer than the longest, or a refusal of something else than the buffer's length
 abbrev Short : Outcome → Type 0
@@ -42,22 +41,22 @@ outcome_short chart s name = of_chart (read_chart chart) refl
     of_sheet m (refused r) e = λ z. omega (arith, number_few (refusal_small s m r e))
     of_sheet m (sheet kind count f) e = form_short name f
 
-    of_chart : (x : ChartRead) → read_chart chart ≡ x → Short (outcome_of (form_of_chart s name x))
-    of_chart (Read.Refused r) e = λ z. omega (arith, (chart_refused chart r e).number_few)
-    of_chart (Read.Chart shape) e = of_sheet shape.m (read_sheet s shape.m) refl
+    of_chart : (x : Result Shape Refusal) → read_chart chart ≡ x → Short (outcome_of (form_of_chart s name x))
+    of_chart (Err r) e = λ z. omega (arith, (chart_refused chart r e).number_few)
+    of_chart (Ok shape) e = of_sheet shape.m (read_sheet s shape.m) refl
 
 -- what is written is no longer than the longest sheet
-pub written_short : (chart s : List ℕ) (name : ℕ) (old new : List ℕ) (size : ℕ) → ShortFormPromise chart s name old new (Written size) → size ≤ longest_sheet
+pub written_short : (chart s : List ℕ) (name : ℕ) (old new : List ℕ) (size : ℕ) → ShortFormPromise chart s name old new (Ok size) → size ≤ longest_sheet
 written_short chart s name old new size p =
     let done = written_fills _ old new size p in
     let short : length done.bytes ≤ longest_sheet = rw done.is at (outcome_short chart s name) in
     omega (arith, done.size_is)
 
 -- a buffer as long as the longest sheet is never refused 14
-pub room_enough : (chart s : List ℕ) (name : ℕ) (old new : List ℕ) (r : Refusal) → longest_sheet ≤ length old → ShortFormPromise chart s name old new (Refused r) → r.number ≡ 14 → ⊥
+pub room_enough : (chart s : List ℕ) (name : ℕ) (old new : List ℕ) (r : Refusal) → longest_sheet ≤ length old → ShortFormPromise chart s name old new (Err r) → r.number ≡ 14 → ⊥
 room_enough chart s name old new r room = go (outcome_of (form_of_chart s name (read_chart chart))) (outcome_short chart s name)
   where
-    go : (w : Outcome) → Short w → LentPromise w old new (Refused r) → r.number ≡ 14 → ⊥
+    go : (w : Outcome) → Short w → LentPromise w old new (Err r) → r.number ≡ 14 → ⊥
     go (refuses q) short p z = let a = p.answered in let e : r ≡ q = cc in short (rw e at z)
     go (writes bytes) short p z =
         let fits : length bytes ≤ length old = omega arith in

@@ -12,19 +12,20 @@ use Rattle.settle.specs.Test.{pick, both}
 use Rattle.sheet.specs.Formula.{Formula, variable, top, bottom, and, or, diamond, box, variable_free}
 use Rattle.sheet.specs.Layout.{formula_bytes, encode}
 use Rattle.short_form.specs.Promise.{before_variable}
+use Rattle.std.specs.Prelude.{Option, Some, None}
 
 -- the bytes before the first variable's node, where `action` says that the first byte is an action byte
 unfoldable pub scan : Bool → List ℕ → ℕ
 scan action [] = 0
 scan action (b ∷ rest) = pick (pick action false (eqb b 0)) 0 (1 + scan (pick action false (ltb 4 b)) rest)
 
-pub scan_none : (action : Bool) (s : List ℕ) (at : ℕ) → length s ≤ at → scan action (drop at s) ≡ 0
+scan_none : (action : Bool) (s : List ℕ) (at : ℕ) → length s ≤ at → scan action (drop at s) ≡ 0
 unfolding scan
 scan_none action s at h = rw (drop_of_length-le s h)
 
-pub scan_here : (action : Bool) (s : List ℕ) (at : ℕ) → at < length s → pick action false (eqb (get_or s at 0) 0) ≡ true → scan action (drop at s) ≡ 0
+pub scan_here : (action : Bool) (s : List ℕ) (at : ℕ) → at < length s → action ≡ false → get_or s at 0 ≡ 0 → scan action (drop at s) ≡ 0
 unfolding scan
-scan_here action s at h e = rw (drop-cons s at 0 h, e)
+scan_here action s at h e f = rw (drop-cons s at 0 h, e, f)
 
 pub scan_next : (action : Bool) (s : List ℕ) (at : ℕ) → at < length s → pick action false (eqb (get_or s at 0) 0) ≡ false
     → scan action (drop at s) ≡ 1 + scan (pick action false (ltb 4 (get_or s at 0))) (drop (at + 1) s)
@@ -132,3 +133,16 @@ module _ (s : List ℕ) (kind : ℕ) (f : Formula) (e : s ≡ encode kind f) (pl
 
   pub sheet_bound : place < length s → variable_free f ≡ false
   sheet_bound h = has_variable f (omega (arith, sheet_length s kind f e))
+
+-- what is found, where the bytes before a place were passed
+pub variable_found : (s : List ℕ) (kind : ℕ) (f : Formula) (action : Bool) (at : ℕ) → s ≡ encode kind f → at + scan action (drop at s) ≡ 3 + scan false (drop 3 s) → at < length s
+    → scan action (drop at s) ≡ 0 → Some at ≡ pick (variable_free f) None (Some (3 + before_variable f))
+variable_found s kind f action at e passed h here =
+    let place : at ≡ 3 + before_variable f = omega (arith, scan_sheet s kind f e) in
+    rw (sheet_bound s kind f e at place h, place)
+
+pub variable_missed : (s : List ℕ) (kind : ℕ) (f : Formula) (action : Bool) (at : ℕ) → s ≡ encode kind f → at + scan action (drop at s) ≡ 3 + scan false (drop 3 s) → length s ≤ at
+    → ◌≡◌ {A = Option ℕ} None (pick (variable_free f) None (Some (3 + before_variable f)))
+variable_missed s kind f action at e passed h =
+    let place : at ≡ 3 + before_variable f = omega (arith, scan_sheet s kind f e, scan_none action s at h) in
+    rw (sheet_free s kind f e at place h)

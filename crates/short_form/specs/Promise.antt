@@ -4,14 +4,13 @@ use Rattle.settle.specs.Test.{pick}
 use Rattle.refusal.specs.Refusal.{sheet_refusal, lent_refusal}
 use Rattle.refusal.specs.declared.Refusal.{Refusal}
 use Rattle.chart.specs.Reading.{read_chart}
-use Rattle.chart.specs.declared.ChartRead.{ChartRead}
-use Rattle.chart.specs.declared.ChartRead.TheVariants as Read
 use Rattle.sheet.specs.Formula.{Formula, variable, top, bottom, and, or, diamond, box, variable_free, nodes}
 use Rattle.sheet.specs.Layout.{encode}
 use Rattle.sheet.specs.Reading.{Sheet, sheet, refused, read_sheet}
 use Rattle.lent.specs.Lent.{Outcome, writes, refuses, LentPromise}
-use Rattle.lent.specs.declared.LentAnswer.{LentAnswer}
 use Rattle.short_form.specs.ShortForm.{short_form, kind_written}
+use Rattle.std.specs.Prelude.{Result, Ok, Err}
+use Rattle.chart.specs.declared.Shape.{Shape}
 
 -- the formula's bytes before its first variable; all of them where it has none
 unfoldable pub before_variable : Formula → ℕ
@@ -43,9 +42,9 @@ abbrev pub form_of_sheet : ℕ → Sheet → Form
 form_of_sheet name (sheet kind count f) = form_of name f
 form_of_sheet name (refused r) = wrong r
 
-abbrev pub form_of_chart : List ℕ → ℕ → ChartRead → Form
-form_of_chart s name (Read.Chart shape) = form_of_sheet name (read_sheet s shape.m)
-form_of_chart s name (Read.Refused r) = wrong r
+abbrev pub form_of_chart : List ℕ → ℕ → Result Shape Refusal → Form
+form_of_chart s name (Ok shape) = form_of_sheet name (read_sheet s shape.m)
+form_of_chart s name (Err r) = wrong r
 
 -- what goes to the lent buffer: the sheet, or the refusal
 abbrev pub outcome_of : Form → Outcome
@@ -53,5 +52,5 @@ outcome_of (form kind f) = writes (encode kind f)
 outcome_of (wrong r) = refuses r
 
 -- old is the lent buffer before the call, new after
-abbrev pub ShortFormPromise : List ℕ → List ℕ → ℕ → List ℕ → List ℕ → LentAnswer → Type 0
+abbrev pub ShortFormPromise : List ℕ → List ℕ → ℕ → List ℕ → List ℕ → Result ℕ Refusal → Type 0
 ShortFormPromise chart s name old new answer = LentPromise (outcome_of (form_of_chart s name (read_chart chart))) old new answer

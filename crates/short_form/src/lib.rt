@@ -1,171 +1,158 @@
 // The sheet of a short form: document 01's table of four, with name 3 by T-05 and the kinds by T-06, for F without variable and a name.
 #![tactic(auto)]
 
-ghost use Rattle.std.specs.Prelude.{◌≡◌, false, ◌∷◌, ◌++◌, ℕ, ◌+◌, ◌≤◌, length, drop, eqb, ltb};
+ghost use Rattle.std.specs.Prelude.{◌≡◌, ◌∷◌, ◌++◌, ℕ, ◌+◌, ◌≤◌, None, Some, length, drop};
 ghost use Rattle.settle.specs.Test.{pick};
-ghost use Rattle.sheet.specs.Formula.{Formula, nodes};
+ghost use Rattle.sheet.specs.Formula.{Formula, nodes, variable_free};
 ghost use Rattle.sheet.specs.Layout.{encode};
 ghost use Rattle.sheet.specs.Reading.{read_sheet};
-ghost use Rattle.text.specs.Text.{placed, PutPromise};
+ghost use Rattle.text.specs.Text.{placed};
 ghost use Rattle.lent.specs.Lent.{LentPromise};
-ghost use Rattle.short_form.specs.ShortForm.{by_name, kind_written};
+ghost use Rattle.short_form.specs.ShortForm.{kind_written};
 ghost use Rattle.short_form.specs.Promise.{before_variable, form_of, form_of_sheet, outcome_of, ShortFormPromise};
-ghost use Rattle.short_form.specs.Pieces.{operator_of, operand_of, more_nodes};
+ghost use Rattle.short_form.specs.Pieces.{operator_of, operand_of, more_nodes, number_of, name_read};
 
-use chart::ChartRead;
-use lent::LentAnswer;
-use sheet::SheetRead;
+use refusal::Refusal;
+use text::Page;
 
-// Whether the byte is a variable's node, where `action` says that it is an action byte.
-fn is_variable(byte: u8, action: bool) -> bool
-    ensures { result ≡ pick action false (eqb byte 0) }
-{
-    if action {
-        return false;
-    }
-    byte == 0
+// The names of the four forms. (C gives a name as its number, so `short_form` takes one.)
+#[derive(Clone, Copy)]
+enum Name {
+    Always,
+    Possible,
+    SafePath,
+    Eventually,
 }
 
-// Whether an action byte follows.
-fn is_labelled(byte: u8, action: bool) -> bool
-    ensures { result ≡ pick action false (ltb 4 byte) }
-{
-    if action {
-        return false;
-    }
-    4 < byte
-}
+impl TryFrom<u64> for Name {
+    type Error = Refusal;
 
-// The place of a sheet's first variable, or the sheet's length.
-fn first_variable(sheet: &[u8]) -> usize
-    ensures { (kind : ℕ) (f : Formula) → sheet.now ≡ encode kind f → result ≡ 3 + before_variable f }
-{
-    let mut at: usize = 3;
-    let mut action = false;
-    while at < sheet.len() {
-        let byte = sheet[at];
-        if is_variable(byte, action) {
-            return at;
+    ghost try_from_gives = { λ number name. name ≡ name_read number };
+
+    fn try_from(number: u64) -> Result<Name, Refusal> {
+        match number {
+            0 => Ok(Name::Always),
+            1 => Ok(Name::Possible),
+            2 => Ok(Name::SafePath),
+            3 => Ok(Name::Eventually),
+            _ => Err(Refusal::of_lent(17)),
         }
-        action = is_labelled(byte, action);
-        at = at + 1;
     }
-    at
 }
 
-// What the table has for a name, of one entry each for always, possible, safe path and eventually.
-fn by_name(name: u64, always: u8, possible: u8, path: u8, eventually: u8) -> u8
-    ensures { result ≡ by_name name always possible path eventually }
+// What the table has for a name.
+impl Name {
+    // The kind: 1 asks for the least solution, 2 for the greatest.
+    fn kind_written(self) -> u8
+        ensures { result ≡ kind_written (number_of self) }
+    {
+        match self {
+            Name::Always | Name::SafePath => 2,
+            Name::Possible | Name::Eventually => 1,
+        }
+    }
+
+    // The and or the or that the form begins with.
+    fn operator(self) -> u8
+        ensures { result ≡ operator_of (number_of self) }
+    {
+        match self {
+            Name::Always | Name::SafePath => 3,
+            Name::Possible | Name::Eventually => 4,
+        }
+    }
+
+    // How many nodes the form has beside those of F.
+    fn more_nodes(self) -> usize
+        ensures { result ≡ more_nodes (number_of self) }
+    {
+        match self {
+            Name::Always | Name::Possible => 3,
+            Name::SafePath | Name::Eventually => 6,
+        }
+    }
+
+    // The second operand of the form, after F.
+    fn operand(self) -> &'static [u8]
+        ensures { result.now ≡ operand_of (number_of self) }
+    {
+        match self {
+            Name::Always => &[6, 255, 0],
+            Name::Possible => &[5, 255, 0],
+            Name::SafePath => &[4, 6, 255, 2, 5, 255, 0],
+            Name::Eventually => &[3, 5, 255, 1, 6, 255, 0],
+        }
+    }
+}
+
+// The place of a sheet's first variable. Where `action` is true the byte is an action byte, and no node.
+#[tactic(auto, using(crate::proofs::Scan::scan_here, crate::proofs::Scan::scan_next, crate::proofs::Scan::variable_found, crate::proofs::Scan::variable_missed))]
+fn first_variable(sheet: &[u8]) -> Option<usize>
+    ensures { (kind : ℕ) (f : Formula) → sheet.now ≡ encode kind f → result ≡ pick (variable_free f) None (Some (3 + before_variable f)) }
 {
-    if name == 0 {
-        return always;
+    let mut action = false;
+    for at in 3..sheet.len() {
+        if !action && sheet[at] == 0 {
+            return Some(at);
+        }
+        action = !action && 4 < sheet[at];
     }
-    if name == 1 {
-        return possible;
-    }
-    if name == 2 {
-        return path;
-    }
-    eventually
+    None
 }
 
-// The kind that the table has for a name.
-fn kind_written(name: u64) -> u8
-    ensures { result ≡ kind_written name }
-{
-    by_name(name, 2, 1, 2, 1)
-}
-
-// The and or the or that the form begins with.
-fn operator(name: u64) -> u8
-    ensures { result ≡ operator_of name }
-{
-    by_name(name, 3, 4, 3, 4)
-}
-
-// How many nodes the form has beside those of F.
-fn more_nodes(name: u64) -> usize
-    ensures { result ≡ more_nodes name }
-{
-    by_name(name, 3, 3, 6, 6) as usize
-}
-
-// How many bytes follow F.
-fn operand_size(name: u64) -> usize
-    ensures { result ≡ length (operand_of name) }
-{
-    by_name(name, 3, 3, 7, 7) as usize
-}
-
-// The second operand of the form, after F.
-fn put_operand(buffer: &mut [u8], at: usize, name: u64) -> usize
-    ensures { PutPromise buffer.old at (operand_of name) result buffer.new }
-{
-    if name == 0 {
-        return text::put_bytes(buffer, at, &[6, 255, 0]);
-    }
-    if name == 1 {
-        return text::put_bytes(buffer, at, &[5, 255, 0]);
-    }
-    if name == 2 {
-        return text::put_bytes(buffer, at, &[4, 6, 255, 2, 5, 255, 0]);
-    }
-    text::put_bytes(buffer, at, &[3, 5, 255, 1, 6, 255, 0])
-}
-
-// The form's sheet, which has room.
-fn put_form(buffer: &mut [u8], sheet: &[u8], name: u64, total: u8)
+// The form's sheet, which has room, in the start of the buffer. Answers its length.
+#[tactic(auto, using(crate::proofs::Pieces::pieces_put))]
+fn put_form(buffer: &mut [u8], sheet: &[u8], name: Name, total: u8) -> usize
     requires in_bounds { 3 ≤ length sheet.now }
-    requires name_in_bounds { length sheet.now + 1 + length (operand_of name) ≤ length buffer.old }
-    ensures { buffer.new ≡ placed buffer.old 0 (1 ∷ kind_written name ∷ total ∷ operator_of name ∷ (drop 3 sheet.now ++ operand_of name)) }
+    requires room { length sheet.now + 1 + length (operand_of (number_of name)) ≤ length buffer.old }
+    ensures value { result ≡ length sheet.now + 1 + length (operand_of (number_of name)) }
+    ensures buffer_after { buffer.new ≡ placed buffer.old 0 (1 ∷ kind_written (number_of name) ∷ total ∷ operator_of (number_of name) ∷ (drop 3 sheet.now ++ operand_of (number_of name))) }
 {
-    let head = [1, kind_written(name), total, operator(name)];
-    let second = text::put_bytes(buffer, 0, &head);
-    let third = text::put_bytes(buffer, second, &sheet[3..]);
-    put_operand(buffer, third, name);
+    let mut page = Page::new(buffer);
+    page.put_bytes(&[1, name.kind_written(), total, name.operator()]);
+    page.put_bytes(&sheet[3..]);
+    page.put_bytes(name.operand());
+    page.at
 }
 
 // The form of an accepted sheet of so many nodes.
-fn of_formula(sheet: &[u8], count: usize, name: u64, buffer: &mut [u8]) -> LentAnswer
+fn of_formula(sheet: &[u8], count: usize, name: u64, buffer: &mut [u8]) -> Result<usize, Refusal>
     requires count_bound { count ≤ 200 }
     requires in_bounds { 3 ≤ length sheet.now }
     ensures { (kind : ℕ) (f : Formula) → sheet.now ≡ encode kind f → count ≡ nodes f → LentPromise (outcome_of (form_of name f)) buffer.old buffer.new result }
 {
-    let variable = first_variable(sheet);
-    if variable < sheet.len() {
-        return LentAnswer::Refused(refusal::of_sheet(16, variable));
+    if let Some(variable) = first_variable(sheet) {
+        return Err(Refusal::of_sheet(16, variable));
     }
-    if 3 < name {
-        return LentAnswer::Refused(refusal::of_lent(17));
-    }
-    let total = count + more_nodes(name);
+    let name = Name::try_from(name)?;
+    let total = count + name.more_nodes();
     if 200 < total {
-        return LentAnswer::Refused(refusal::of_sheet(10, 2));
+        return Err(Refusal::of_sheet(10, 2));
     }
-    let size = sheet.len() + 1 + operand_size(name);
+    let size = sheet.len() + 1 + name.operand().len();
     if buffer.len() < size {
-        return LentAnswer::Refused(refusal::of_lent(14));
+        return Err(Refusal::of_lent(14));
     }
-    put_form(buffer, sheet, name, total as u8);
-    LentAnswer::Written(size)
+    Ok(put_form(buffer, sheet, name, total as u8))
 }
 
 // The form of a sheet, or its refusal.
-fn of_sheet(sheet: &[u8], m: usize, name: u64, buffer: &mut [u8]) -> LentAnswer
+fn of_sheet(sheet: &[u8], m: usize, name: u64, buffer: &mut [u8]) -> Result<usize, Refusal>
     ensures { LentPromise (outcome_of (form_of_sheet name (read_sheet sheet.now m))) buffer.old buffer.new result }
 {
-    match sheet::read_sheet(sheet, m) {
-        SheetRead::Refused(r) => LentAnswer::Refused(r),
-        SheetRead::Sheet(outline) => of_formula(sheet, outline.nodes, name, buffer),
-    }
+    let outline = sheet::read_sheet(sheet, m)?;
+    of_formula(sheet, outline.nodes, name, buffer)
 }
 
 // The sheet of a short form, in the start of the lent buffer.
-pub fn short_form(chart: &[u8], sheet: &[u8], name: u64, buffer: &mut [u8]) -> LentAnswer
+pub fn short_form(
+    chart: &[u8],
+    sheet: &[u8],
+    name: u64,
+    buffer: &mut [u8],
+) -> Result<usize, Refusal>
     ensures { ShortFormPromise chart.now sheet.now name buffer.old buffer.new result }
 {
-    match chart::read_chart(chart) {
-        ChartRead::Refused(r) => LentAnswer::Refused(r),
-        ChartRead::Chart(shape) => of_sheet(sheet, shape.m, name, buffer),
-    }
+    let shape = chart::read_chart(chart)?;
+    of_sheet(sheet, shape.m, name, buffer)
 }

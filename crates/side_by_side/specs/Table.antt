@@ -1,20 +1,18 @@
--- The table of codes that putting two charts side by side works with: first which codes are declared, then where each stands among them.
-use Rattle.std.specs.Prelude.{ℕ, ◌<◌, ◌≡◌, Bool, List, length, get_or, take, eqb}
+-- The tables of codes that putting two charts side by side works with: which codes are declared, and where each of those stands among them.
+use Rattle.std.specs.Prelude.{ℕ, ◌<◌, ◌≡◌, Bool, false, List, get_or}
 use Rattle.std.proofs.Math.Bool.{So}
-use Rattle.settle.specs.Test.{pick}
+use Rattle.settle.specs.Test.{either}
 use Rattle.beside.specs.Chosen.{chosen}
 use Rattle.beside.specs.Beside.{declares, index_of}
 
--- each of these codes bears the flag, and all others bear what they bore
-pub record Flagged (codes old new : List ℕ) : Type 0 where
-  pub same_length : length new ≡ length old
-  pub flags : (x : ℕ) → x < 256 → get_or new x 0 ≡ pick (declares codes x) 1 (get_or old x 0)
+abbrev pub flagged : List Bool → ℕ → Bool
+flagged flags x = get_or flags x false
 
-abbrev pub flagged : List ℕ → ℕ → Bool
-flagged table x = eqb (get_or table x 0) 1
+-- each of these codes bears the flag, and all others bear it as they did
+pub record Flagged (codes : List ℕ) (old new : List Bool) : Type 0 where
+  pub flags : (x : ℕ) → x < 256 → flagged new x ≡ either (declares codes x) (flagged old x)
 
--- the codes that bore the flag stand at the start, rising; the table has where each of them stands
-pub record Numbered (old new codes : List ℕ) (count : ℕ) : Type 0 where
-  pub count_is : count ≡ length (chosen (flagged old) 256)
-  pub codes_are : take count codes ≡ chosen (flagged old) 256
-  pub places_are : (x : ℕ) → x < 256 → So (flagged old x) → get_or new x 0 ≡ index_of x (chosen (flagged old) 256)
+-- the codes that bear the flag, rising; of each of them, `places` has where it stands
+pub record Numbered (flags : List Bool) (places codes : List ℕ) : Type 0 where
+  pub codes_are : codes ≡ chosen (flagged flags) 256
+  pub places_are : (x : ℕ) → x < 256 → So (flagged flags x) → get_or places x 0 ≡ index_of x (chosen (flagged flags) 256)

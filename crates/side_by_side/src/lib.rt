@@ -2,14 +2,17 @@
 #![tactic(auto)]
 
 ghost use Rattle.std.specs.Prelude.{◌≡◌, ◌+◌, ◌*◌, ◌≤◌, ◌<◌, length};
-ghost use Rattle.chart.specs.Reading.{read_chart, bytes_at};
-ghost use Rattle.chart.specs.declared.ChartRead.TheVariants as Read;
+ghost use Rattle.chart.specs.Layout.{step_bytes, Bytes};
+ghost use Rattle.chart.specs.Reading.{bytes_at};
+ghost use Rattle.text.specs.Text.{HasRoom, Added};
 ghost use Rattle.side_by_side.specs.Table.{Flagged, Numbered};
-ghost use Rattle.side_by_side.specs.Written.{HeadWritten, Movable, StepsWritten};
+ghost use Rattle.side_by_side.specs.Written.{head, tabled_steps};
 ghost use Rattle.side_by_side.specs.Promise.{TogetherPromise, JoinPromise};
 
-use chart::{ChartRead, Shape};
+use arrayvec::ArrayVec;
+use chart::AcceptedChart;
 use refusal::Refusal;
+use text::Page;
 
 // The length of the chart that was written, and how many states the two charts have.
 #[derive(Clone, Copy)]
@@ -19,138 +22,108 @@ pub struct Joined {
     pub second: usize,
 }
 
-#[derive(Drop)]
-pub enum Joining {
-    Chart(Joined),
-    Refused(Refusal),
-}
-
-// The m codes that stand from `at` on get the flag 1. (The proof does not learn the length of an array behind a reference, so it is asked for.)
-fn flag(chart: &[u8], at: usize, m: usize, table: &mut [u8; 256])
-    requires { (at + m ≤ length chart.now) × (length table.old ≡ 256) }
-    ensures { Flagged (bytes_at chart.now at m) table.old table.new }
+// These codes get their flags.
+#[tactic(auto, using(crate::proofs::Table::flagged_none, crate::proofs::Table::flagged_more, crate::proofs::Table::flagged_all))]
+fn flag(codes: &[u8], flags: &mut [bool; 256])
+    ensures { Flagged codes.now flags.old flags.new }
 {
-    let mut i: usize = 0;
-    while i < m {
-        table[chart[at + i] as usize] = 1;
-        i = i + 1;
+    for code in codes {
+        flags[usize::from(*code)] = true;
     }
 }
 
-// The codes that bear the flag, rising, from the start of `codes` on; the table gets where each of them stands. Answers how many they are.
-fn number(table: &mut [u8; 256], codes: &mut [u8; 256]) -> usize
-    requires { (length table.old ≡ 256) × (length codes.old ≡ 256) }
-    ensures { Numbered table.old table.new codes.new result }
+// The codes that bear the flag, rising; each code's place among them goes to `places`.
+#[tactic(auto, using(crate::proofs::Table::numbering_none, crate::proofs::Table::numbering_more, crate::proofs::Table::numbering_skip, crate::proofs::Table::numbering_all))]
+fn number(flags: &[bool; 256], places: &mut [u8; 256]) -> ArrayVec<u8, 256>
+    ensures { Numbered flags.now places.new result.items }
 {
-    let mut count: usize = 0;
-    let mut code: usize = 0;
-    while code < 256 {
-        if table[code] == 1 {
-            codes[count] = code as u8;
-            table[code] = count as u8;
-            count = count + 1;
+    let mut codes = ArrayVec::new();
+    for code in 0..256 {
+        if flags[code] {
+            places[code] = codes.len() as u8;
+            codes.push(code as u8);
         }
-        code = code + 1;
     }
-    count
+    codes
 }
 
 // The counts, the mode codes of both charts and the action codes, up to the first triple.
-fn put_head(
-    first: &[u8],
-    n: usize,
-    second: &[u8],
-    more: usize,
-    codes: &[u8],
-    t: usize,
-    out: &mut [u8],
-) -> usize
-    requires n_in_bounds { (n < length first.now) × (more < length second.now) × (n + more ≤ 64) }
-    requires codes_len_bound { (length codes.now ≤ 32) × (t ≤ 1024) × (100 ≤ length out.old) }
-    ensures { HeadWritten (bytes_at first.now 1 n) (bytes_at second.now 1 more) codes.now t out.old out.new result }
+#[tactic(auto, using(crate::proofs::Written::head_written))]
+fn put_head(first: &AcceptedChart, second: &AcceptedChart, codes: &[u8], t: usize, page: &mut Page)
+    requires few { (first.now.shape.n + second.now.shape.n ≤ 64) × (length codes.now ≤ 32) × (t ≤ 1024) }
+    requires room { HasRoom page.old (head (bytes_at first.now.bytes.now 1 first.now.shape.n) (bytes_at second.now.bytes.now 1 second.now.shape.n) codes.now t) }
+    ensures { Added page.old (head (bytes_at first.now.bytes.now 1 first.now.shape.n) (bytes_at second.now.bytes.now 1 second.now.shape.n) codes.now t) page.new }
 {
-    let states = [(n + more) as u8];
-    let modes = text::put_bytes(out, 0, &states);
-    let others = text::put_bytes(out, modes, &first[1..1 + n]);
-    let actions = text::put_bytes(out, others, &second[1..1 + more]);
-    let count = [codes.len() as u8];
-    let next = text::put_bytes(out, actions, &count);
-    let transitions = text::put_bytes(out, next, codes);
-    let both = [(t % 256) as u8, (t / 256) as u8];
-    text::put_bytes(out, transitions, &both)
+    let n = first.shape.n;
+    let more = second.shape.n;
+    page.put_bytes(&[(n + more) as u8]);
+    page.put_bytes(&first.bytes[1..1 + n]);
+    page.put_bytes(&second.bytes[1..1 + more]);
+    page.put_bytes(&[codes.len() as u8]);
+    page.put_bytes(codes);
+    page.put_bytes(&[(t % 256) as u8, (t / 256) as u8]);
 }
 
-// The triples of a chart, each action by the table and each state by `shift` further on. Answers the place after.
-fn put_steps(
-    chart: &[u8],
-    shape: Shape,
-    table: &[u8; 256],
-    shift: usize,
-    out: &mut [u8],
-    to: usize,
-) -> usize
-    requires movable { Movable chart.now shape shift }
-    requires t_in_bounds { to + 3 * shape.t ≤ length out.old }
-    ensures { StepsWritten chart.now shape table.now shift out.old to out.new result }
+// The triples of a chart, each action by its code's place and each state by `shift` further on.
+#[tactic(auto, using(crate::proofs::Written::front_all))]
+fn put_steps(chart: &AcceptedChart, places: &[u8; 256], shift: usize, page: &mut Page)
+    requires few { shift + chart.now.shape.n ≤ 64 }
+    requires room { page.old.at + 3 * chart.now.shape.t ≤ length page.old.bytes.now }
+    ensures { Added page.old (step_bytes (tabled_steps chart.now.bytes.now chart.now.shape places.now shift)) page.new }
 {
-    let codes = 2 + shape.n;
-    let at = 4 + shape.n + shape.m;
-    let mut i: usize = 0;
-    while i < shape.t {
+    let codes = 2 + chart.shape.n;
+    let at = 4 + chart.shape.n + chart.shape.m;
+    for i in 0..chart.shape.t {
         let step = at + 3 * i;
-        let place = to + 3 * i;
-        let action = chart[step + 1] as usize;
-        let code = chart[codes + action] as usize;
-        out[place] = (shift + chart[step] as usize) as u8;
-        out[place + 1] = table[code];
-        out[place + 2] = (shift + chart[step + 2] as usize) as u8;
-        i = i + 1;
+        let source = shift + usize::from(chart.bytes[step]);
+        let code = chart.bytes[codes + usize::from(chart.bytes[step + 1])];
+        let target = shift + usize::from(chart.bytes[step + 2]);
+        page.put_bytes(&[source as u8, places[usize::from(code)], target as u8]);
     }
-    to + 3 * shape.t
 }
 
 // Two accepted charts.
-fn together(first: &[u8], a: Shape, second: &[u8], b: Shape, out: &mut [u8; 3172]) -> Joining
-    requires { (read_chart first.now ≡ Read.Chart a) × (read_chart second.now ≡ Read.Chart b) }
-    ensures { TogetherPromise first.now a second.now b out.old out.new result }
+fn together(
+    first: &AcceptedChart,
+    second: &AcceptedChart,
+    out: &mut [u8; 3172],
+) -> Result<Joined, Refusal>
+    requires { Bytes first.now.bytes.now × Bytes second.now.bytes.now }
+    ensures { TogetherPromise first.now.bytes.now first.now.shape second.now.bytes.now second.now.shape out.old out.new result }
 {
-    let n = a.n + b.n;
-    let t = a.t + b.t;
-    let mut table = [0u8; 256];
-    flag(first, 2 + a.n, a.m, &mut table);
-    flag(second, 2 + b.n, b.m, &mut table);
-    let mut codes = [0u8; 256];
-    let m = number(&mut table, &mut codes);
-    if 64 < n {
-        return Joining::Refused(refusal::of_lent(18));
+    let a = first.shape;
+    let b = second.shape;
+    let mut flags = [false; 256];
+    flag(&first.bytes[2 + a.n..2 + a.n + a.m], &mut flags);
+    flag(&second.bytes[2 + b.n..2 + b.n + b.m], &mut flags);
+    let mut places = [0u8; 256];
+    let codes = number(&flags, &mut places);
+    if 64 < a.n + b.n {
+        return Err(Refusal::of_lent(18));
     }
-    if 32 < m {
-        return Joining::Refused(refusal::of_lent(19));
+    if 32 < codes.len() {
+        return Err(Refusal::of_lent(19));
     }
-    if 1024 < t {
-        return Joining::Refused(refusal::of_lent(20));
+    if 1024 < a.t + b.t {
+        return Err(Refusal::of_lent(20));
     }
-    let head = put_head(first, a.n, second, b.n, &codes[..m], t, out);
-    let middle = put_steps(first, a, &table, 0, out, head);
-    let end = put_steps(second, b, &table, a.n, out, middle);
-    Joining::Chart(Joined {
-        length: end,
+    let mut page = Page::new(out);
+    put_head(first, second, codes.as_slice(), a.t + b.t, &mut page);
+    put_steps(first, &places, 0, &mut page);
+    put_steps(second, &places, a.n, &mut page);
+    Ok(Joined {
+        length: page.at,
         first: a.n,
         second: b.n,
     })
 }
 
 // The two charts side by side, from the start of `out` on, or the first refusal.
-pub fn join(first: &[u8], second: &[u8], out: &mut [u8; 3172]) -> Joining
+#[tactic(auto, using(crate::proofs::Promise::refused_first, crate::proofs::Promise::refused_second, crate::proofs::Promise::both_accepted))]
+pub fn join(first: &[u8], second: &[u8], out: &mut [u8; 3172]) -> Result<Joined, Refusal>
     ensures { JoinPromise first.now second.now out.old out.new result }
 {
-    let a = match chart::read_chart(first) {
-        ChartRead::Refused(r) => return Joining::Refused(r),
-        ChartRead::Chart(s) => s,
-    };
-    let b = match chart::read_chart(second) {
-        ChartRead::Refused(r) => return Joining::Refused(refusal::of_second(r)),
-        ChartRead::Chart(s) => s,
-    };
-    together(first, a, second, b, out)
+    let one = AcceptedChart::read(first)?;
+    let other = AcceptedChart::read(second).map_err(Refusal::of_second)?;
+    together(&one, &other, out)
 }

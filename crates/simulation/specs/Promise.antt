@@ -7,7 +7,8 @@ use Rattle.nearness.specs.Relation.{Simulating}
 use Rattle.nearness.specs.Bisimulation.{Simulates}
 use Rattle.relation.specs.Promise.{byte_at, MatrixPromise}
 use Rattle.relation.specs.declared.Matrix.{Matrix}
-use Rattle.relation.specs.declared.MatrixAnswer.{MatrixAnswer}
+use Rattle.std.specs.Prelude.{Result}
+use Rattle.refusal.specs.declared.Refusal.{Refusal}
 
 -- the largest simulation of a chart of n states with these steps
 pub record SimulationOf (n : ℕ) (steps : List Step) (bytes : List ℕ) (given : Matrix) : Type 0 where
@@ -18,5 +19,5 @@ pub record SimulationOf (n : ℕ) (steps : List Step) (bytes : List ℕ) (given 
   pub rounds_are : Rounds (pairs n) (Simulating steps) given.rounds
   pub rounds_few : given.rounds ≤ n * n - n
 
-abbrev pub SimulationPromise : List ℕ → List ℕ → List ℕ → MatrixAnswer → Type 0
+abbrev pub SimulationPromise : List ℕ → List ℕ → List ℕ → Result Matrix Refusal → Type 0
 SimulationPromise = MatrixPromise (λ n m. SimulationOf n) Simulating

@@ -5,49 +5,42 @@ ghost use Rattle.std.specs.Prelude.{◌≡◌, ◌+◌, ◌*◌, ◌≤◌, leng
 ghost use Rattle.simulation.specs.Promise.{SimulationPromise};
 ghost use Rattle.simulation.specs.Working.{RowPut, CellsPut};
 
-use chart::ChartRead;
-use relation::{Matrix, MatrixAnswer};
+use chart::AcceptedChart;
+use refusal::Refusal;
+use relation::Matrix;
 
 // The n cells from `base` on: 1 where the bit of the row is set, else 0.
 fn put_row(buffer: &mut [u8], base: usize, row: u64, n: usize)
     requires { (n ≤ 64) × (base + n ≤ length buffer.old) }
     ensures { RowPut row base n buffer.old buffer.new }
 {
-    let mut q: usize = 0;
-    while q < n {
+    for q in 0..n {
         buffer[base + q] = ((row >> q) % 2) as u8;
-        q = q + 1;
     }
 }
 
 // The cells of the n rows, one row after the other.
 fn put_cells(buffer: &mut [u8], rows: &[u64; 64], n: usize)
-    requires n_bound { (n ≤ 64) × (n * n ≤ length buffer.old) }
-    requires rows_len { length rows.now ≡ 64 }
+    requires { (n ≤ 64) × (n * n ≤ length buffer.old) }
     ensures { CellsPut n rows.now (n * n) buffer.old buffer.new }
 {
-    let mut p: usize = 0;
-    while p < n {
+    for p in 0..n {
         put_row(buffer, p * n, rows[p], n);
-        p = p + 1;
     }
 }
 
 // The byte at p * n + q of the buffer becomes 1 where q simulates p, and else 0.
-pub fn simulation(chart: &[u8], buffer: &mut [u8]) -> MatrixAnswer
+pub fn simulation(chart: &[u8], buffer: &mut [u8]) -> Result<Matrix, Refusal>
     ensures { SimulationPromise chart.now buffer.old buffer.new result }
 {
-    let shape = match chart::read_chart(chart) {
-        ChartRead::Refused(r) => return MatrixAnswer::Refused(r),
-        ChartRead::Chart(s) => s,
-    };
-    let n = shape.n;
+    let chart = AcceptedChart::read(chart)?;
+    let n = chart.shape.n;
     if buffer.len() < n * n {
-        return MatrixAnswer::Refused(refusal::of_lent(14));
+        return Err(Refusal::of_lent(14));
     }
-    let settled = falls::work_out(chart, shape);
+    let settled = falls::work_out(&chart);
     put_cells(buffer, &settled.rows, n);
-    MatrixAnswer::Given(Matrix {
+    Ok(Matrix {
         states: n,
         rounds: settled.rounds,
     })

@@ -9,8 +9,8 @@ use Rattle.settle.proofs.Chain.{rounds_unique}
 use Rattle.words.specs.Words.{word_of}
 use Rattle.solve.specs.Solving.{Reached, Solves}
 use Rattle.solve.specs.declared.Solved.{Solved}
-use Rattle.solve.specs.declared.PropertyAnswer.{PropertyAnswer}
-use Rattle.solve.specs.declared.PropertyAnswer.TheVariants.{Satisfied, Refused}
+use Rattle.std.specs.Prelude.{Result, Ok, Err}
+use Rattle.refusal.specs.declared.Refusal.{Refusal}
 
 pub same_solved : {w v c d j k : ℕ} → w ≡ v → c ≡ d → j ≡ k → ◌≡◌ {A = Solved} (record { word = w; count = c; rounds = j }) (record { word = v; count = d; rounds = k })
 same_solved p q r = cc
@@ -24,8 +24,8 @@ module _ (n : ℕ) (F : (ℕ → Bool) → ℕ → Bool) (S : ℕ → Bool) wher
       (A.count_is ∙ ap (λ (j : ℕ). count (chain F S j) (below n)) k ∙ sym B.count_is)
       k
 
-  pub solves_determined : (x y : PropertyAnswer) → Solves n F S x → Solves n F S y → x ≡ y
-  solves_determined (Satisfied a) (Satisfied b) X Y = ap Satisfied (reached_unique a b X Y)
-  solves_determined (Satisfied a) (Refused r) X Y = absurd (Y.1 a.rounds X.rounds_few X.rounds_are.0)
-  solves_determined (Refused r) (Satisfied b) X Y = absurd (X.1 b.rounds Y.rounds_few Y.rounds_are.0)
-  solves_determined (Refused r) (Refused q) X Y = ap Refused (X.0 ∙ sym Y.0)
+  pub solves_determined : (x y : Result Solved Refusal) → Solves n F S x → Solves n F S y → x ≡ y
+  solves_determined (Ok a) (Ok b) X Y = ap Ok (reached_unique a b X Y)
+  solves_determined (Ok a) (Err r) X Y = absurd (Y.1 a.rounds X.rounds_few X.rounds_are.0)
+  solves_determined (Err r) (Ok b) X Y = absurd (X.1 b.rounds Y.rounds_few Y.rounds_are.0)
+  solves_determined (Err r) (Err q) X Y = ap Err (X.0 ∙ sym Y.0)

@@ -1,6 +1,6 @@
 -- The rounds, on words: what one application gives, and when it changes nothing.
 use Prim.Native.Nat.{ℕ, suc, ◌+◌, ◌-◌, ◌<◌, ◌≤◌, ◌^◌}
-use mathlib.Core.Path.{◌≡◌, ap, sym, ◌∙◌}
+use mathlib.Core.Path.{◌≡◌, refl, ap, sym, ◌∙◌}
 use mathlib.Core.Bool.{Bool}
 use mathlib.Core.List.{List}
 use native.Mathlib.Omega.{arith}
@@ -12,21 +12,22 @@ use Rattle.settle.specs.Finite.{below}
 use Rattle.settle.specs.Chain.{Same, empty, full, chain, Settled, Rounds}
 use Rattle.settle.proofs.Finite.{below_e, below_i}
 use Rattle.chart.specs.Chart.{Step}
-use Rattle.chart.specs.Reading.{chart_in}
+use Rattle.chart.specs.Reading.{chart_in, read_chart}
+use Rattle.std.specs.Prelude.{Ok}
 use Rattle.chart.specs.declared.Shape.{Shape}
 use Rattle.chart.proofs.Accepted.{accepted, each_step}
 use Rattle.sheet.specs.Formula.{Formula}
 use Rattle.sheet.specs.Meaning.{holds}
 use Rattle.sheet.specs.Reading.{parse}
 use Rattle.sheet.proofs.Meaning.{TargetsBelow, holds_same}
-use Rattle.words.specs.Words.{word_of, member}
-use Rattle.words.proofs.Words.{word_none, all_word, word_cong, word_member}
-use Rattle.steps.specs.Table.{ReadAs, Table}
+use Rattle.words.specs.Words.{word_of, member, Size}
+use Rattle.words.proofs.Words.{word_none, all_word, word_cong, word_member, word_small}
+use Rattle.steps.specs.Table.{Table}
 use Rattle.evaluate.specs.Evaluating.{table_word, memo_at, Remembers, SameRows, formula_of}
 use Rattle.evaluate.proofs.Modal.{table_holds}
 use Rattle.evaluate.proofs.Rows.{read_labels, word_same}
 use Rattle.evaluate.proofs.Stepped.{remembers_none}
-use Rattle.solve.specs.Solving.{application}
+use Rattle.solve.specs.Solving.{application, Reached}
 
 pub empty_word : (n : ℕ) → 0 ≡ word_of n empty
 unfolding empty
@@ -38,11 +39,17 @@ full_word n = sym (all_word n)
 
 -- ---- by the table of the chart's steps
 
+pub states_few : (s : List ℕ) (sh : Shape) → read_chart s ≡ Ok sh → sh.n ≤ 64
+states_few s sh e = (accepted s sh e).states_few
+
+pub actions_few : (s : List ℕ) (sh : Shape) → read_chart s ≡ Ok sh → sh.m ≤ 32
+actions_few s sh e = (accepted s sh e).actions_few
+
 -- 33 rows of 64 words and two words for each of 402 places are enough
-pub work_few : (s : List ℕ) (sh : Shape) (b : List ℕ) → ReadAs s sh → length b ≤ 402 → memo_at sh.n sh.m (length b) ≤ 2916
+pub work_few : (s : List ℕ) (sh : Shape) (b : List ℕ) → read_chart s ≡ Ok sh → length b ≤ 402 → memo_at sh.n sh.m (length b) ≤ 2916
 work_few s sh b e short = omega (arith, table_few s sh e)
 
-module _ (s : List ℕ) (sh : Shape) (b : List ℕ) (nodes : ℕ) (made : List ℕ) (e : ReadAs s sh) (T : Table sh.n sh.m (chart_in s sh).steps made) where
+module _ (s : List ℕ) (sh : Shape) (b : List ℕ) (nodes : ℕ) (made : List ℕ) (e : read_chart s ≡ Ok sh) (T : Table sh.n sh.m (chart_in s sh).steps made) where
   -- the table as it was made, with nothing remembered yet
   pub made_remembers : memo_at sh.n sh.m (length b) ≤ length made → Remembers sh.n sh.m b made
   made_remembers size = remembers_none sh.n sh.m b made
@@ -67,36 +74,79 @@ same_tests : (n : ℕ) (P Q : ℕ → Bool) → Same (below n) P Q → word_of n
 same_tests n P Q e = word_cong n P Q (λ x h. e x (below_i n x h))
 
 -- the loop, after so many rounds: none of the rounds before was settled
-pub record Rounding (n : ℕ) (F : (ℕ → Bool) → ℕ → Bool) (S : ℕ → Bool) (set next rounds : ℕ) : Type 0 where
-  pub few : rounds ≤ 4096
+pub record Rounding (n : ℕ) (F : (ℕ → Bool) → ℕ → Bool) (S : ℕ → Bool) (set rounds : ℕ) : Type 0 where
   pub set_is : set ≡ word_of n (chain F S rounds)
-  pub next_is : next ≡ word_of n (chain F S (suc rounds))
   pub unsettled : (j : ℕ) → j < rounds → Settled (below n) (chain F S) j → ⊥
 
-module _ {n : ℕ} {F : (ℕ → Bool) → ℕ → Bool} {S : ℕ → Bool} {set next rounds : ℕ} (R : Rounding n F S set next rounds) where
-  -- where the next set is the same, the rounds are the least
-  pub settled_rounds : next ≡ set → Rounds (below n) (chain F S) rounds
-  settled_rounds e = (same_word n _ _ (sym R.set_is ∙ sym e ∙ R.next_is), R.unsettled)
-
-  -- where it is not, this one was not settled either
-  unsettled_more : (next ≡ set → ⊥) → (j : ℕ) → j < rounds + 1 → Settled (below n) (chain F S) j → ⊥
-  unsettled_more ne = below_more (λ j. Settled (below n) (chain F S) j → ⊥) rounds R.unsettled (λ s. ne (R.next_is ∙ sym (same_tests n _ _ s) ∙ sym R.set_is))
-
-  -- after 4,096 of them none was
-  pub never_settled : (next ≡ set → ⊥) → rounds ≡ 4096 → (k : ℕ) → k ≤ 4096 → Settled (below n) (chain F S) k → ⊥
-  never_settled ne e k h = unsettled_more ne k (omega arith)
-
 module _ (n m : ℕ) (steps : List Step) (targets : TargetsBelow n steps) (f : Formula) (S : ℕ → Bool) where
+  pub started : (set : ℕ) → set ≡ word_of n S → Rounding n (holds m steps f) S set 0
+  unfolding chain
+  started set e = record { set_is = e; unsettled = λ j l. absurd (omega arith) }
+
   -- one application more
-  next_word : (set k : ℕ) → set ≡ word_of n (chain (holds m steps f) S k) → word_of n (holds m steps f (member set)) ≡ word_of n (chain (holds m steps f) S (suc k))
-  unfolding chain
-  next_word set k e = word_cong n _ _ (holds_same m n steps targets f _ _ (λ x h. ap (λ (w : ℕ). member w x) e ∙ word_member n x _ h))
+  module _ (set next rounds : ℕ) (R : Rounding n (holds m steps f) S set rounds) (e : next ≡ word_of n (holds m steps f (member set))) where
+    next_is : next ≡ word_of n (chain (holds m steps f) S (suc rounds))
+    unfolding chain
+    next_is = e ∙ word_cong n _ _ (holds_same m n steps targets f _ _ (λ x h. ap (λ (w : ℕ). member w x) R.set_is ∙ word_member n x _ h))
 
-  pub started : (set next : ℕ) → set ≡ word_of n S → next ≡ word_of n (holds m steps f (member set)) → Rounding n (holds m steps f) S set next 0
-  unfolding chain
-  started set next e h = record { few = omega arith; set_is = e; next_is = h ∙ next_word set 0 e; unsettled = λ j l. absurd (omega arith) }
+    -- where the next set is the same, the rounds are the least
+    pub settled_rounds : next ≡ set → Rounds (below n) (chain (holds m steps f) S) rounds
+    settled_rounds same = (same_word n _ _ (sym R.set_is ∙ sym same ∙ next_is), R.unsettled)
 
-  pub one_more : (set next after rounds : ℕ) → Rounding n (holds m steps f) S set next rounds → (next ≡ set → ⊥) → (rounds ≡ 4096 → ⊥)
-      → after ≡ word_of n (holds m steps f (member next)) → Rounding n (holds m steps f) S next after (rounds + 1)
-  one_more set next after rounds R ne below-limit e =
-      record { few = omega (arith, R.few); set_is = rw (add-one rounds) R.next_is; next_is = rw (add-one rounds) (e ∙ next_word next (suc rounds) R.next_is); unsettled = unsettled_more R ne }
+    -- where it is not, this one was not settled either
+    pub one_more : (next ≡ set → ⊥) → Rounding n (holds m steps f) S next (rounds + 1)
+    one_more ne = record {
+      set_is = rw (add-one rounds) next_is;
+      unsettled = below_more (λ j. Settled (below n) (chain (holds m steps f) S) j → ⊥) rounds R.unsettled (λ s. ne (next_is ∙ sym (same_tests n _ _ s) ∙ sym R.set_is));
+    }
+
+-- ---- the rounds of a sheet's formula, as the loop goes through them
+
+-- after so many rounds: the rows of the words are those of the table that was made
+pub record Going (s : List ℕ) (sh : Shape) (b : List ℕ) (nodes : ℕ) (S : ℕ → Bool) (work : List ℕ) (set rounds : ℕ) : Type 0 where
+  pub read : read_chart s ≡ Ok sh
+  pub made : List ℕ
+  pub table : Table sh.n sh.m (chart_in s sh).steps made
+  pub rows : SameRows sh.n sh.m made work
+  pub rounding : Rounding sh.n (application s sh b nodes) S set rounds
+
+module _ (s : List ℕ) (sh : Shape) (b : List ℕ) (nodes : ℕ) (S : ℕ → Bool) where
+  abbrev asked : Formula
+  asked = formula_of (parse nodes b sh.m 3 nodes)
+
+  targets_in : read_chart s ≡ Ok sh → TargetsBelow sh.n (chart_in s sh).steps
+  targets_in e u i = (each_step s sh e u i).target_in
+
+  pub going_started : (made : List ℕ) (set : ℕ) → read_chart s ≡ Ok sh → Table sh.n sh.m (chart_in s sh).steps made → set ≡ word_of sh.n S
+      → Going s sh b nodes S made set 0
+  going_started made set e T h = record {
+    read = e;
+    made = made;
+    table = T;
+    rows = λ e l. refl;
+    rounding = started sh.n sh.m (chart_in s sh).steps (targets_in e) asked S set h;
+  }
+
+  module _ (work : List ℕ) (set next rounds : ℕ) (G : Going s sh b nodes S work set rounds) (h : next ≡ table_word work sh.n (formula_of (parse nodes b sh.m 3 nodes)) set) where
+    next_word : next ≡ word_of sh.n (application s sh b nodes (member set))
+    next_word = h ∙ table_application s sh b nodes G.made G.read G.table work G.rows set (word_small sh.n set _ G.rounding.set_is)
+
+    pub going_settled : (count : ℕ) → Size set count → rounds ≤ 4096 → next ≡ set → Reached sh.n (application s sh b nodes) S (record { word = set; count = count; rounds = rounds })
+    going_settled count size few same = record {
+      word_is = G.rounding.set_is;
+      count_is = size _ _ G.rounding.set_is;
+      rounds_are = settled_rounds sh.n sh.m (chart_in s sh).steps (targets_in G.read) asked S set next rounds G.rounding next_word same;
+      rounds_few = few;
+    }
+
+    pub going_on : (after : List ℕ) → SameRows sh.n sh.m work after → (next ≡ set → ⊥) → Going s sh b nodes S after next (rounds + 1)
+    going_on after same ne = record {
+      read = G.read;
+      made = G.made;
+      table = G.table;
+      rows = λ e l. same e l ∙ G.rows e l;
+      rounding = one_more sh.n sh.m (chart_in s sh).steps (targets_in G.read) asked S set next rounds G.rounding next_word ne;
+    }
+
+-- how the rounds go on
+pub ruleset by_rounds = (states_few, word_small, made_remembers, going_started, going_settled, going_on)

@@ -12,8 +12,8 @@ use Rattle.sheet.specs.Solution.{asks_least}
 use Rattle.words.specs.Words.{word_of}
 use Rattle.evaluate.specs.Evaluating.{formula_of}
 use Rattle.solve.specs.declared.Solved.{Solved}
-use Rattle.solve.specs.declared.PropertyAnswer.{PropertyAnswer}
-use Rattle.solve.specs.declared.PropertyAnswer.TheVariants.{Satisfied, Refused}
+use Rattle.std.specs.Prelude.{Result, Ok, Err}
+use Rattle.refusal.specs.declared.Refusal.{Refusal}
 
 -- one application, for the bytes of a chart with these counts and of a sheet with so many nodes
 abbrev pub application : List ℕ → Shape → List ℕ → ℕ → (ℕ → Bool) → ℕ → Bool
@@ -29,6 +29,6 @@ pub record Reached (n : ℕ) (F : (ℕ → Bool) → ℕ → Bool) (S : ℕ → 
   pub rounds_are : Rounds (below n) (chain F S) a.rounds
   pub rounds_few : a.rounds ≤ 4096
 
-abbrev pub Solves : ℕ → ((ℕ → Bool) → ℕ → Bool) → (ℕ → Bool) → PropertyAnswer → Type 0
-Solves n F S (Satisfied a) = Reached n F S a
-Solves n F S (Refused r) = (r ≡ lent_refusal 15) × ((k : ℕ) → k ≤ 4096 → Settled (below n) (chain F S) k → ⊥)
+abbrev pub Solves : ℕ → ((ℕ → Bool) → ℕ → Bool) → (ℕ → Bool) → Result Solved Refusal → Type 0
+Solves n F S (Ok a) = Reached n F S a
+Solves n F S (Err r) = (r ≡ lent_refusal 15) × ((k : ℕ) → k ≤ 4096 → Settled (below n) (chain F S) k → ⊥)

@@ -17,8 +17,6 @@ use Rattle.settle.proofs.Chain.{stops_e}
 use Rattle.chart.specs.Chart.{Chart, states, actions}
 use Rattle.chart.specs.Reading.{read_chart, read_actions, read_transitions, judge_codes, judge_triples, bytes_at, steps_at, chart_in}
 use Rattle.chart.specs.declared.Shape.{Shape}
-use Rattle.chart.specs.declared.ChartRead.{ChartRead}
-use Rattle.chart.specs.declared.ChartRead.TheVariants as Read
 use Rattle.chart.proofs.Accepted.{same_shape}
 use Rattle.sheet.specs.Formula.{Formula}
 use Rattle.sheet.specs.Meaning.{leaves, some_step, every_step, some_label, every_label, holds}
@@ -32,6 +30,8 @@ use Rattle.nearness.specs.Mark.{bears_mark}
 use Rattle.nearness.proofs.Bisimulation.{simulates_iff}
 use Rattle.nearness.proofs.Rounds.{near_rounds_le, mark_test}
 use Rattle.starred.specs.Boards.{Board, marks, marks_greatest, simulates, satisfies, satisfies_form, InChart, Truth, MarksAre, GreatestRounds, SimulationsAre, SatisfiesAre, Holds, chart_e, chart_l, chart_one, sheet_e, sheet_or, sheet_and, sheet_false, starred}
+use Rattle.std.specs.Prelude.{Result, Ok, Err}
+use Rattle.refusal.specs.declared.Refusal.{Refusal}
 
 -- ---- the tests
 
@@ -86,9 +86,9 @@ chart_of (simulates bytes expected) = bytes
 chart_of (satisfies bytes sheet_bytes word number rounds) = bytes
 chart_of (satisfies_form bytes sheet_bytes kind form word number rounds) = bytes
 
-on_chart : List ℕ → (Chart → Bool) → ChartRead → Bool
-on_chart bytes test (Read.Chart sh) = both (targets_in (chart_in bytes sh)) (test (chart_in bytes sh))
-on_chart bytes test (Read.Refused r) = false
+on_chart : List ℕ → (Chart → Bool) → Result Shape Refusal → Bool
+on_chart bytes test (Ok sh) = both (targets_in (chart_in bytes sh)) (test (chart_in bytes sh))
+on_chart bytes test (Err r) = false
 
 good : Board → Bool
 good b = on_chart (chart_of b) (board_test b) (read_chart (chart_of b))
@@ -161,12 +161,12 @@ module _ (c : Chart) (targets : TargetsBelow (states c) c.steps) where
 
 on_chart_lem : (bytes : List ℕ) (test : Chart → Bool) (Says : Chart → Type 0)
     → ((c : Chart) → TargetsBelow (states c) c.steps → So (test c) → Says c)
-    → (r : ChartRead) → read_chart bytes ≡ r → So (on_chart bytes test r) → InChart bytes Says
+    → (r : Result Shape Refusal) → read_chart bytes ≡ r → So (on_chart bytes test r) → InChart bytes Says
 unfolding on_chart targets_in
-on_chart_lem bytes test Says f (Read.Chart sh) e t =
+on_chart_lem bytes test Says f (Ok sh) e t =
     let a = both_e _ _ t in
     (sh, e, f (chart_in bytes sh) (λ s m. ltb-true _ _ (all_e _ a.0 m)) a.1)
-on_chart_lem bytes test Says f (Read.Refused r) e t = never t
+on_chart_lem bytes test Says f (Err r) e t = never t
 
 good_holds : (b : Board) → So (good b) → Holds b
 unfolding good chart_of board_test Holds
@@ -183,7 +183,7 @@ pub starred_boards_hold : (b : Board) → Mem b starred → Holds b
 starred_boards_hold b m = good_holds b (all_e good all_good m)
 
 -- what a board says of a chart, of the counts that are read
-pub of_chart : (Says : Chart → Type 0) (bytes : List ℕ) (sh : Shape) → read_chart bytes ≡ Read.Chart sh → InChart bytes Says → Says (chart_in bytes sh)
+pub of_chart : (Says : Chart → Type 0) (bytes : List ℕ) (sh : Shape) → read_chart bytes ≡ Ok sh → InChart bytes Says → Says (chart_in bytes sh)
 of_chart Says bytes sh read b = subst (λ (x : Shape). Says (chart_in bytes x)) (same_shape b.1 read) b.2
 
 -- the counts of charts E and L, as they are read
@@ -193,10 +193,10 @@ shape_e = record { n = 6; m = 3; t = 7 }
 abbrev pub shape_l : Shape
 shape_l = record { n = 3; m = 1; t = 3 }
 
-pub read_e : read_chart chart_e ≡ Read.Chart shape_e
+pub read_e : read_chart chart_e ≡ Ok shape_e
 unfolding chart_e read_chart read_actions read_transitions judge_codes judge_triples
 read_e = refl
 
-pub read_l : read_chart chart_l ≡ Read.Chart shape_l
+pub read_l : read_chart chart_l ≡ Ok shape_l
 unfolding chart_l read_chart read_actions read_transitions judge_codes judge_triples
 read_l = refl

@@ -7,7 +7,6 @@ use Rattle.settle.specs.Chain.{Rounds}
 use Rattle.chart.specs.Chart.{Chart, states, actions}
 use Rattle.chart.specs.Reading.{read_chart, chart_in}
 use Rattle.chart.specs.declared.Shape.{Shape}
-use Rattle.chart.specs.declared.ChartRead.TheVariants as Read
 use Rattle.sheet.specs.Formula.{Formula}
 use Rattle.sheet.specs.Solution.{Satisfies, SheetRounds}
 use Rattle.sheet.specs.Reading.{sheet, read_sheet}
@@ -17,6 +16,7 @@ use Rattle.nearness.specs.Bisimulation.{Simulates}
 use Rattle.nearness.specs.Mark.{Mark}
 use Rattle.short_form.specs.ShortForm.{short_form, kind_written}
 use Rattle.short_form.specs.Rest.{house_form}
+use Rattle.std.specs.Prelude.{Ok}
 
 pub data Board : Type 0 where
   -- a chart's bytes, the marks of all pairs row by row, and the rounds
@@ -33,7 +33,7 @@ pub data Board : Type 0 where
 -- ---- what a case says
 
 abbrev pub InChart : List ℕ → (Chart → Type 0) → Type 0
-InChart bytes Says = (sh : Shape) × (read_chart bytes ≡ Read.Chart sh) × Says (chart_in bytes sh)
+InChart bytes Says = (sh : Shape) × (read_chart bytes ≡ Ok sh) × Says (chart_in bytes sh)
 
 abbrev pub Truth : Bool → Type 0 → Type 0
 Truth true P = P

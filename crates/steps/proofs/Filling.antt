@@ -1,7 +1,7 @@
 -- The table of no step, and the table of one step more, as it is or turned back.
 use Prim.Native.Nat.{ℕ, zero, suc, ◌+◌, ◌*◌, ◌/◌, ◌%◌, ◌^◌, ◌≤◌, ◌<◌}
 use mathlib.Core.Path.{◌≡◌, refl, ap, sym, ◌∙◌}
-use mathlib.Core.Bool.{Bool, true, false, So}
+use mathlib.Core.Bool.{So}
 use mathlib.Core.List.Memᴰ
 use mathlib.Core.List.Memᴰ.{append_cases}
 use mathlib.Core.List.Memᴰ.{eq_of_singleton as the_one}
@@ -10,7 +10,7 @@ use mathlib.Core.List.Memᴰ.{not-nil}
 use mathlib.Core.List.{List, [], ◌∷◌, ◌++◌, map-append}
 use mathlib.Core.Logic.{◌⊎◌, inl, inr}
 use native.Mathlib.Decide.{ℕ_discrete}
-use native.Mathlib.Nat.{mul-le-mul}
+use native.Mathlib.Nat.{mul-le-mul, mul-le-mul_right}
 use native.Mathlib.Omega.{arith}
 use borrow.Author.Tests.{eq-eqb, ne_eqb, eqb-true}
 use lib.Arith.{digits_lt, digits_div, digits_mod}
@@ -27,8 +27,10 @@ use Rattle.chart.specs.declared.Shape.{Shape}
 use Rattle.chart.proofs.Accepted.{accepted}
 use Rattle.words.specs.Words.{member}
 use Rattle.words.proofs.Words.{no_member}
-use Rattle.steps.specs.Table.{ReadAs, Table, HasStep, Blank, turn, directed, with_bit, with_step, with_directed}
-use Rattle.steps.proofs.Bits.{or_member, one_member}
+use Rattle.steps.specs.Table.{ReadAs, Table, HasStep, Blank, turn, taken, directed, with_bit, with_step}
+use Rattle.steps.specs.declared.table.Direction.{Direction}
+use Rattle.steps.specs.declared.table.Direction.TheVariants.{Forth, Back}
+use Rattle.words.proofs.Bits.{or_member, one_member}
 
 -- ---- bit s of word e, one more
 
@@ -76,8 +78,8 @@ table_few chart shape e =
     let rows : shape.m + 1 ≤ 33 = omega (arith, a.actions_few) in
     omega (arith, mul-le-mul rows a.states_few)
 
-pub table_none : (back : Bool) (n m : ℕ) (into : List ℕ) → Blank into → (m + 1) * n ≤ length into → Table n m (directed back []) into
-table_none back n m into blank h = rw (none back) (record {
+pub table_none : (direction : Direction) (n m : ℕ) (into : List ℕ) → Blank into → (m + 1) * n ≤ length into → Table n m (directed direction []) into
+table_none direction n m into blank h = rw (none direction) (record {
   room = h;
   no_bit_above = λ e. rw (blank e) (pow_pos n);
   by_action = λ a u s a_in u_in. (no_bit ((a + 1) * n + u) s, λ k. absurd (not-nil k));
@@ -85,9 +87,9 @@ table_none back n m into blank h = rw (none back) (record {
   none_after = λ e h. blank e;
 })
   where
-    none : (back : Bool) → directed back [] ≡ []
-    none true = refl
-    none false = refl
+    none : (direction : Direction) → directed direction [] ≡ []
+    none Forth = refl
+    none Back = refl
 
     no_bit : {X : Type 0} (e s : ℕ) → So (member (get_or into e 0) s) → X
     no_bit e s t = never (sym (no_member 0 _ s (rw (blank e) (pow_pos 0)) (omega arith)) ∙ t)
@@ -107,7 +109,7 @@ module _ (n m : ℕ) (steps : List Step) (into : List ℕ) (v : Step) (v_in : St
   begun = with_bit v.source v.target into
 
   abbrev done : List ℕ
-  done = with_step n v.source v.action v.target into
+  done = with_step n v into
 
   target_in : v.target < length into
   target_in = omega (arith, T.room, v_in.target_in)
@@ -178,8 +180,21 @@ module _ (n m : ℕ) (steps : List Step) (into : List ℕ) (v : Step) (v_in : St
       }
 
 -- the same of the steps as they are, or of all of them turned back
-pub table_directed : (back : Bool) (n m : ℕ) (steps : List Step) (into : List ℕ) (v : Step) → StepIn n m v → Table n m (directed back steps) into
-    → Table n m (directed back (steps ++ (v ∷ []))) (with_directed back n v.source v.action v.target into)
-table_directed true n m steps into v v_in T =
+pub table_directed : (direction : Direction) (n m : ℕ) (steps : List Step) (into : List ℕ) (v : Step) → StepIn n m v → Table n m (directed direction steps) into
+    → Table n m (directed direction (steps ++ (v ∷ []))) (with_step n (taken direction v) into)
+table_directed Back n m steps into v v_in T =
     rw (map-append turn steps (v ∷ [])) (table_more n m _ into (turn v) (record { source_in = v_in.target_in; action_in = v_in.action_in; target_in = v_in.source_in }) T)
-table_directed false n m steps into v v_in T = table_more n m steps into v v_in T
+table_directed Forth n m steps into v v_in T = table_more n m steps into v v_in T
+
+-- a step that is turned back is one of the same states and actions
+pub taken_in : (direction : Direction) {n m : ℕ} {v : Step} → StepIn n m v → StepIn n m (taken direction v)
+taken_in Forth v_in = v_in
+taken_in Back v_in = record { source_in = v_in.target_in; action_in = v_in.action_in; target_in = v_in.source_in }
+
+-- u is v as it is taken: it has a row, and once it is in, v is
+module _ (direction : Direction) {n m : ℕ} (steps : List Step) {into : List ℕ} (v u : Step) (e : u ≡ taken direction v) (v_in : StepIn n m v) (T : Table n m (directed direction steps) into) where
+  pub step_room : (u.action + 1) * n + n ≤ length into
+  step_room = let w : StepIn n m u = rw e (taken_in direction v_in) in omega (arith, mul-le-mul_right {m = u.action + 1 + 1} {n = m + 1} n (omega (arith, w.action_in)), T.room)
+
+  pub step_added : {new : List ℕ} → new ≡ with_step n u into → Table n m (directed direction (steps ++ (v ∷ []))) new
+  step_added f = rw (f, e) (table_directed direction n m steps into v v_in T)

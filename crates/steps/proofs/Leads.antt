@@ -1,21 +1,22 @@
 -- A step of a set by one row: what makes it (-i), what follows from it (-e), and that a walk over the set's members finds it.
-use Prim.Native.Nat.{ℕ, ◌+◌, ◌-◌, ◌^◌, ◌≤◌, ◌<◌}
+use Prim.Native.Nat.{ℕ, ◌+◌, ◌^◌, ◌≤◌, ◌<◌}
 use mathlib.Core.Path.{◌≡◌, refl, sym, ◌∙◌}
 use mathlib.Core.Bool.{Bool, true, false, So}
 use mathlib.Core.List.{List}
 use mathlib.Core.Logic.{inl, inr}
 use borrow.Author.Tests.{eqb-true}
-use lib.Bits.{bit_and, bit_or}
-use lib.Count.{count_trailing_zeros}
+use lib.Bits.{bit_or}
 use lib.ListN.{get_or}
 use Rattle.settle.specs.Test.{either}
 use Rattle.settle.specs.Finite.{below}
-use Rattle.settle.proofs.Test.{never, ext, either_l, either_r, either_e, some_i, some_e}
+use Rattle.settle.proofs.Test.{never, ext, either_l, either_r, either_e, either_false, some_i, some_e}
 use Rattle.settle.proofs.Finite.{below_i, below_e}
 use Rattle.words.specs.Words.{member}
 use Rattle.words.proofs.Words.{no_member, none_member}
 use Rattle.steps.specs.Walk.{leads}
-use Rattle.steps.proofs.Bits.{or_member, lowest_lt, lowest_or_rest, lowest_in, rest_in}
+use Rattle.words.specs.Members.{Lowest}
+use Rattle.words.proofs.Bits.{or_member}
+use Rattle.words.proofs.Lowest.{lowest_or_rest, rest_in}
 
 pub leads_i : (into : List ℕ) (base set s u : ℕ) → u < 64 → So (member set u) → So (member (get_or into (base + u) 0) s) → So (leads into base set s)
 unfolding leads
@@ -57,29 +58,30 @@ leads_same into other base set s e =
 -- ---- the walk over a set's members
 
 -- a step to the set is one to its lowest member or to one of the rest
-lowest_leads : (into : List ℕ) (base w s : ℕ) → 0 < w → w < 2 ^ 64
-    → leads into base w s ≡ either (member (get_or into (base + count_trailing_zeros 64 w) 0) s) (leads into base (bit_and w (w - 1)) s)
-lowest_leads into base w s p h =
-    let low : ℕ = count_trailing_zeros 64 w in
+lowest_leads : {w q rest : ℕ} (into : List ℕ) (base s : ℕ) → Lowest w q rest → leads into base w s ≡ either (member (get_or into (base + q) 0) s) (leads into base rest s)
+lowest_leads {w} {q} {rest} into base s h =
     ext
     (λ t. let r = leads_e into base w s t in
-    elim (either_e _ _ (sym (lowest_or_rest 64 w p h r.0) ∙ r.2)) [
-      | inl e ↦ either_l _ (rw (eqb-true low r.0 e) r.3)
+    elim (either_e _ _ (sym (lowest_or_rest h r.0) ∙ r.2)) [
+      | inl e ↦ either_l _ (rw (eqb-true q r.0 e) r.3)
       | inr m ↦ either_r _ (leads_i into base _ s r.0 r.1 m r.3)
     ])
     (λ t. elim (either_e _ _ t) [
-      | inl m ↦ leads_i into base w s low (lowest_lt 64 w p h) (lowest_in 64 w p h) m
-      | inr l ↦ let r = leads_e into base _ s l in leads_i into base w s r.0 r.1 (rest_in 64 w p h r.0 r.2) r.3
+      | inl m ↦ leads_i into base w s q h.few h.in_set m
+      | inr l ↦ let r = leads_e into base _ s l in leads_i into base w s r.0 r.1 (rest_in h r.0 r.2) r.3
     ])
 
 -- with the lowest member's word taken and the member dropped, what is out or still to come is the same
-pub one_walked : (into : List ℕ) (base w s out : ℕ) → 0 < w → w < 2 ^ 64
-    → either (member (bit_or out (get_or into (base + count_trailing_zeros 64 w) 0)) s) (leads into base (bit_and w (w - 1)) s)
-    ≡ either (member out s) (leads into base w s)
+pub one_walked : {w q rest : ℕ} (into : List ℕ) (base s out : ℕ) → Lowest w q rest
+    → either (member (bit_or out (get_or into (base + q) 0)) s) (leads into base rest s) ≡ either (member out s) (leads into base w s)
 unfolding either
-one_walked into base w s out p h =
-    rw (or_member out (get_or into (base + count_trailing_zeros 64 w) 0) s, lowest_leads into base w s p h) (either_assoc (member out s) _ _)
+one_walked {w} {q} {rest} into base s out h =
+    rw (or_member out (get_or into (base + q) 0) s, lowest_leads into base s h) (either_assoc (member out s) _ _)
   where
     either_assoc : (a b c : Bool) → either (either a b) c ≡ either a (either b c)
     either_assoc true b c = refl
     either_assoc false b c = refl
+
+-- and where none is left, all is out
+pub all_walked : (into : List ℕ) (base left s out : ℕ) → left ≡ 0 → either (member out s) (leads into base left s) ≡ member out s
+all_walked into base left s out e = rw (e, leads_none into base s) (either_false (member out s))

@@ -4,15 +4,18 @@ use mathlib.Core.Path.{◌≡◌, sym, ap₂, ◌∙◌}
 use mathlib.Core.Bool.{So}
 use mathlib.Core.List.Memᴰ
 use mathlib.Core.List.{List, Memᴰ as Mem}
+use native.Mathlib.Nat.{mul-le-mul_right}
 use native.Mathlib.Omega.{arith}
+use lib.ListN.{length}
+use Rattle.settle.specs.Test.{either}
 use native.Mathlib.Decide.{dec_le}
 use Rattle.settle.proofs.Test.{never}
 use Rattle.chart.specs.Chart.{Step}
 use Rattle.words.specs.Words.{member}
-use Rattle.words.proofs.Words.{no_member}
+use Rattle.words.proofs.Words.{no_member, none_member, word_small, word_of_lem}
 use Rattle.steps.specs.Table.{Table, Sized, HasStep}
 use Rattle.steps.specs.Walk.{leads}
-use Rattle.steps.proofs.Leads.{leads_i, leads_e}
+use Rattle.steps.proofs.Leads.{leads_i, leads_e, leads_small}
 
 pub sized : {n m : ℕ} {steps : List Step} {into : List ℕ} → Table n m steps into → Sized n m into
 sized T = record { room = T.room; no_bit_above = T.no_bit_above }
@@ -20,6 +23,22 @@ sized T = record { room = T.room; no_bit_above = T.no_bit_above }
 -- a member of a set of states is a state
 pub member_below : (n w x : ℕ) → w < 2 ^ n → So (member w x) → x < n
 member_below n w x h t = elim (dec_le n x) [ yes l ↦ never (sym (no_member n w x h l) ∙ t) | no f ↦ omega arith ]
+
+-- ---- a step of a set by one row of a table
+
+module _ {n m : ℕ} {into : List ℕ} (T : Sized n m into) (row set : ℕ) where
+  -- the words of the row are there
+  pub row_there : row ≤ m → set < 2 ^ n → (u : ℕ) → So (member set u) → row * n + u < length into
+  row_there row_in small u i = omega (arith, T.room, mul-le-mul_right {m = row + 1} {n = m + 1} n (omega arith), member_below n set u small i)
+
+  module _ (r : ℕ) (is : (s : ℕ) → member r s ≡ either (member 0 s) (leads into (row * n) set s)) where
+    pub sources_are : (s : ℕ) → member r s ≡ leads into (row * n) set s
+    unfolding either
+    sources_are s = is s ∙ rw (none_member s)
+
+    -- all of which are states
+    pub sources_small : n ≤ 64 → r < 2 ^ 64 → r < 2 ^ n
+    sources_small few h = word_small n r _ (word_of_lem n r (leads into (row * n) set) few h sources_are (λ s l. leads_small n into _ set s T.no_bit_above l))
 
 -- a step, by its source and its action
 pub has_step : {steps : List Step} {q a : ℕ} (u : Step) → Mem u steps → u.source ≡ q → u.action ≡ a → HasStep steps q a u.target

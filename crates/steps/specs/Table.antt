@@ -1,18 +1,20 @@
 -- The table of a chart's steps, as words, n words a row.
-use Rattle.std.specs.Prelude.{ℕ, ◌+◌, ◌*◌, ◌^◌, ◌≤◌, ◌<◌, ◌≡◌, Bool, true, false, ◌↔◌, length, get_or, set}
+use Rattle.std.specs.Prelude.{ℕ, ◌+◌, ◌*◌, ◌^◌, ◌≤◌, ◌<◌, ◌≡◌, ◌↔◌, length, get_or, set}
 use Rattle.std.proofs.Math.Bool.{So}
 use mathlib.Core.List.{List, map, Memᴰ as Mem}
 use Rattle.std.specs.Int.Bits.{bit_or}
-use Rattle.settle.specs.Test.{pick}
 use Rattle.chart.specs.Chart.{Step}
 use Rattle.chart.specs.Reading.{read_chart, step_at}
 use Rattle.chart.specs.declared.Shape.{Shape}
-use Rattle.chart.specs.declared.ChartRead.TheVariants as Read
 use Rattle.words.specs.Words.{member}
+use Rattle.steps.specs.declared.table.Direction.{Direction}
+use Rattle.steps.specs.declared.table.Triple.{Triple}
+use Rattle.steps.specs.declared.table.Direction.TheVariants.{Forth, Back}
+use Rattle.std.specs.Prelude.{Ok}
 
 -- the bytes were read as a chart of these counts
 abbrev pub ReadAs : List ℕ → Shape → Type 0
-ReadAs chart shape = read_chart chart ≡ Read.Chart shape
+ReadAs chart shape = read_chart chart ≡ Ok shape
 
 -- the step (s, a, u) is one of them
 abbrev pub HasStep : List Step → ℕ → ℕ → ℕ → Type 0
@@ -33,10 +35,15 @@ pub record Table (n m : ℕ) (steps : List Step) (into : List ℕ) : Type 0 wher
 abbrev pub turn : Step → Step
 turn v = record { source = v.target; action = v.action; target = v.source }
 
+-- a step as it is, or turned back
+abbrev pub taken : Direction → Step → Step
+taken Forth v = v
+taken Back v = turn v
+
 -- the steps as they are, or all of them turned back
-abbrev pub directed : Bool → List Step → List Step
-directed false steps = steps
-directed true steps = map turn steps
+abbrev pub directed : Direction → List Step → List Step
+directed Forth steps = steps
+directed Back steps = map turn steps
 
 -- a table has m + 1 rows of n words, none with a bit at n or above
 pub record Sized (n m : ℕ) (into : List ℕ) : Type 0 where
@@ -44,6 +51,14 @@ pub record Sized (n m : ℕ) (into : List ℕ) : Type 0 where
   pub no_bit_above : (e : ℕ) → get_or into e 0 < 2 ^ n
 
 -- ---- what the parts say that make it
+
+-- the step of a triple
+abbrev pub step_of : Triple → Step
+step_of v = record { source = v.source; action = v.action; target = v.target }
+
+-- triple number i of an accepted chart
+abbrev pub triple_at : List ℕ → Shape → ℕ → Step
+triple_at chart shape i = step_at chart (4 + shape.n + shape.m + 3 * i)
 
 -- no word has a bit
 abbrev pub Blank : List ℕ → Type 0
@@ -54,16 +69,12 @@ abbrev pub with_bit : ℕ → ℕ → List ℕ → List ℕ
 with_bit s e into = set into e (bit_or (get_or into e 0) (2 ^ s))
 
 -- the source's bit is set in the target's word, in row 0 and in the action's own
-abbrev pub with_step : ℕ → ℕ → ℕ → ℕ → List ℕ → List ℕ
-with_step n source action target into = with_bit source ((action + 1) * n + target) (with_bit source target into)
-
--- the same of the step as it is, or turned back
-abbrev pub with_directed : Bool → ℕ → ℕ → ℕ → ℕ → List ℕ → List ℕ
-with_directed back n source action target into = pick back (with_step n target action source into) (with_step n source action target into)
+abbrev pub with_step : ℕ → Step → List ℕ → List ℕ
+with_step n v into = with_bit v.source ((v.action + 1) * n + v.target) (with_bit v.source v.target into)
 
 -- of the triples from `first` on, r is the number of the first with a source later than s, or t
 abbrev pub StopsAt : List ℕ → Shape → ℕ → ℕ → ℕ → Type 0
 StopsAt chart shape s first r =
     (first ≤ r) × (r ≤ shape.t)
-    × ((i : ℕ) → first ≤ i → i < r → (step_at chart (4 + shape.n + shape.m + 3 * i)).source ≤ s)
-    × (r < shape.t → s < (step_at chart (4 + shape.n + shape.m + 3 * r)).source)
+    × ((i : ℕ) → first ≤ i → i < r → (triple_at chart shape i).source ≤ s)
+    × (r < shape.t → s < (triple_at chart shape r).source)

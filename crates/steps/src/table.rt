@@ -2,78 +2,113 @@
 // such a step to u; in the table of the steps turned back, where u has one to s.
 ghost use Rattle.std.specs.Prelude.{◌≡◌, ◌+◌, ◌*◌, ◌≤◌, ◌<◌, length};
 ghost use Rattle.chart.specs.Reading.{chart_in, steps_at};
-ghost use Rattle.steps.specs.Table.{ReadAs, Table, Blank, directed, with_step, with_directed, StopsAt};
+ghost use Rattle.chart.specs.Layout.{StepIn};
+ghost use Rattle.steps.specs.Table.{Table, Blank, step_of, triple_at, taken, directed, with_step, StopsAt};
 
-use chart::Shape;
+use chart::AcceptedChart;
 
-// The step's source is set in the target's word, in the row of all actions and in that of its own.
-fn add_step(into: &mut [u64], n: usize, source: u8, action: u8, target: u8)
-    requires source_lt_n { (source < n) × (target < n) × (n ≤ 64) }
-    requires n_in_bounds { (action + 1) * n + n ≤ length into.old }
-    ensures { into.new ≡ with_step n source action target into.old }
-{
-    let bit = 1u64 << source;
-    let u = target as usize;
-    let own = n + action as usize * n + u;
-    into[u] = into[u] | bit;
-    into[own] = into[own] | bit;
+// Which way the steps are taken: as they stand in the chart, or turned back.
+#[derive(Clone, Copy)]
+pub enum Direction {
+    Forth,
+    Back,
 }
 
-// The same of the step turned back, where that is asked.
-fn add_directed(into: &mut [u64], n: usize, back: bool, source: u8, action: u8, target: u8)
-    requires source_lt_n { (source < n) × (target < n) × (n ≤ 64) }
-    requires n_in_bounds { (action + 1) * n + n ≤ length into.old }
-    ensures { into.new ≡ with_directed «back» n source action target into.old }
+// Where the triples begin.
+#[inline]
+fn first_triple(chart: &AcceptedChart) -> usize
+    ensures value { result ≡ 4 + chart.now.shape.n + chart.now.shape.m }
+    ensures end { length chart.now.bytes.now ≡ result + 3 * chart.now.shape.t }
 {
-    if back {
-        add_step(into, n, target, action, source);
-        return;
+    4 + chart.shape.n + chart.shape.m
+}
+
+// A triple of the chart: a step, by its bytes.
+#[derive(Clone, Copy)]
+struct Triple {
+    source: u8,
+    action: u8,
+    target: u8,
+}
+
+impl Triple {
+    // Triple number i.
+    #[inline]
+    fn read(chart: &AcceptedChart, i: usize) -> Triple
+        requires { i < chart.now.shape.t }
+        ensures value { step_of result ≡ triple_at chart.now.bytes.now chart.now.shape i }
+        ensures within { StepIn chart.now.shape.n chart.now.shape.m (triple_at chart.now.bytes.now chart.now.shape i) }
+        ensures few { chart.now.shape.n ≤ 64 }
+    {
+        let p = first_triple(chart) + 3 * i;
+        Triple {
+            source: chart.bytes[p],
+            action: chart.bytes[p + 1],
+            target: chart.bytes[p + 2],
+        }
     }
-    add_step(into, n, source, action, target);
+
+    // The step as it is, or turned back.
+    #[inline]
+    fn taken(self, direction: Direction) -> Triple
+        ensures { step_of result ≡ taken direction (step_of self) }
+    {
+        match direction {
+            Direction::Forth => self,
+            Direction::Back => Triple {
+                source: self.target,
+                target: self.source,
+                ..self
+            },
+        }
+    }
+}
+
+// The step's source is set in the target's word, in the row of all actions and in that of its own.
+#[tactic(auto, using(words::proofs::Words::shl_one))]
+fn add_step(into: &mut [u64], n: usize, step: Triple)
+    requires source_lt_n { (step.source < n) × (step.target < n) × (n ≤ 64) }
+    requires n_in_bounds { (step.action + 1) * n + n ≤ length into.old }
+    ensures { into.new ≡ with_step n (step_of step) into.old }
+{
+    let bit = 1u64 << step.source;
+    let u = usize::from(step.target);
+    let own = (usize::from(step.action) + 1) * n + u;
+    into[u] |= bit;
+    into[own] |= bit;
 }
 
 // Adds the steps of state s, the triples from `first` on, and answers the number of the first with a later source.
 fn add_steps(
-    chart: &[u8],
-    shape: Shape,
-    back: bool,
+    chart: &AcceptedChart,
+    direction: Direction,
     s: usize,
     first: usize,
     into: &mut [u64],
 ) -> usize
-    requires read_as { ReadAs chart.now shape }
-    requires first_le_t { first ≤ shape.t }
-    requires table { Table shape.n shape.m (directed «back» (steps_at chart.now (4 + shape.n + shape.m) first)) into.old }
-    ensures stops_at { StopsAt chart.now shape s first result }
-    ensures table_2 { Table shape.n shape.m (directed «back» (steps_at chart.now (4 + shape.n + shape.m) result)) into.new }
+    requires first_le_t { first ≤ chart.now.shape.t }
+    requires table { Table chart.now.shape.n chart.now.shape.m (directed direction (steps_at chart.now.bytes.now (4 + chart.now.shape.n + chart.now.shape.m) first)) into.old }
+    ensures stops_at { StopsAt chart.now.bytes.now chart.now.shape s first result }
+    ensures table_2 { Table chart.now.shape.n chart.now.shape.m (directed direction (steps_at chart.now.bytes.now (4 + chart.now.shape.n + chart.now.shape.m) result)) into.new }
 {
-    let n = shape.n;
-    let at = 4 + n + shape.m;
-    let t = shape.t;
-    let mut i = first;
-    while i < t {
-        let p = at + 3 * i;
-        if s < chart[p] as usize {
+    for i in first..chart.shape.t {
+        let step = Triple::read(chart, i);
+        if s < usize::from(step.source) {
             return i;
         }
-        add_directed(into, n, back, chart[p], chart[p + 1], chart[p + 2]);
-        i = i + 1;
+        add_step(into, chart.shape.n, step.taken(direction));
     }
-    i
+    chart.shape.t
 }
 
 // The table of the chart's steps, or of them turned back, in words that are 0: the triples are walked once, in order, a state's steps at a time.
-pub fn fill(chart: &[u8], shape: Shape, back: bool, into: &mut [u64])
-    requires read_as { ReadAs chart.now shape }
+pub fn fill(chart: &AcceptedChart, direction: Direction, into: &mut [u64])
     requires blank { Blank into.old }
-    requires n_in_bounds { (shape.m + 1) * shape.n ≤ length into.old }
-    ensures { Table shape.n shape.m (directed «back» (chart_in chart.now shape).steps) into.new }
+    requires n_in_bounds { (chart.now.shape.m + 1) * chart.now.shape.n ≤ length into.old }
+    ensures { Table chart.now.shape.n chart.now.shape.m (directed direction (chart_in chart.now.bytes.now chart.now.shape).steps) into.new }
 {
-    let n = shape.n;
-    let mut i: usize = 0;
-    let mut s: usize = 0;
-    while s < n {
-        i = add_steps(chart, shape, back, s, i, into);
-        s = s + 1;
+    let mut i = 0;
+    for s in 0..chart.shape.n {
+        i = add_steps(chart, direction, s, i, into);
     }
 }

@@ -1,15 +1,16 @@
 -- The digits of a number, step by step, and texts in a buffer.
-use Prim.Native.Nat.{ℕ, zero, suc, ◌+◌, ◌/◌, ◌%◌, ◌<◌, ◌≤◌}
+use Prim.Native.Nat.{ℕ, zero, suc, ◌+◌, ◌*◌, ◌/◌, ◌%◌, ◌^◌, ◌<◌, ◌≤◌}
+use Rattle.std.proofs.Common.{lit≤}
 use mathlib.Core.Path.{◌≡◌, sym, ap, ◌∙◌}
 use mathlib.Core.List.{List, [], ◌∷◌, ◌++◌, append_assoc}
-use native.Mathlib.Nat.{zero-add}
 use native.Mathlib.Omega.{arith}
-use native.Mathlib.Numerals.{add-one}
+use native.Mathlib.Numerals.{add-one, unary_clauses}
 use native.Mathlib.Decide.{dec_lt}
-use lib.ListN.{length, take, drop, set, length-append, length-drop}
+use lib.ListN.{length, take, drop, set, length-append, length-drop, length-set}
 use lib.Seq.{length-take-le, take_at, drop_at, drop-drop, append_snoc, set_split, set-append_left, take-set-lt, drop-set-lt, paste-zero}
 use lib.Dec.{leb}
-use mathlib.Core.Bool.{true, false}
+use borrow.Rule.Slice.PartMut.{put_mid}
+use mathlib.Core.Bool.{true}
 use borrow.Author.Tests.{lt-ltb, le-ltb, le-leb}
 use Rattle.text.specs.Text.{digits, decimal, line, placed, buffer_after, place_after, PutPromise}
 
@@ -73,6 +74,19 @@ width_some x = go (dec_lt x 10)
 pub width_most : (x : ℕ) → length (decimal x) ≤ 1 + x / 10
 width_most = by_tenths (λ x. length (decimal x) ≤ 1 + x / 10) (λ x h. omega (arith, width_small x h)) (λ x h less. omega (arith, width_step x h, less))
 
+-- the digits by the power of ten that x reaches
+pub width_power : (k x : ℕ) → 10 ^ k ≤ x → x < 10 * 10 ^ k → length (decimal x) ≡ k + 1
+width_power zero x h l = width_small x (omega arith)
+width_power (suc k) x h l =
+    let low : 10 ^ k * 10 ≤ x = simp unary_clauses at h in
+    let high : x < 10 * (10 ^ k * 10) = simp unary_clauses at l in
+    let less = width_power k (x / 10) (omega arith) (omega arith) in
+    omega (arith, less, width_step x (omega (arith, pow_some k)))
+  where
+    pow_some : (k : ℕ) → 1 ≤ 10 ^ k
+    pow_some zero = lit≤ tt
+    pow_some (suc k) = simp unary_clauses (omega (arith, pow_some k))
+
 -- ---- texts in a buffer
 
 module _ (b : List ℕ) (at : ℕ) (s : List ℕ) (room : at + length s ≤ length b) where
@@ -99,6 +113,11 @@ module _ (b : List ℕ) (at : ℕ) (s : List ℕ) (room : at + length s ≤ leng
       ∙ ap (λ (l : List ℕ). l ++ drop (n + length t) b) (append_assoc (take at b) s t)
       ∙ ap (λ (k : ℕ). take at b ++ (s ++ t) ++ drop k b) end
 
+-- a text that is copied over as many bytes
+pub copied : (b : List ℕ) (at k : ℕ) (s t : List ℕ) → k ≡ length t → s ≡ t → put_mid at k b s ≡ placed b at t
+unfolding placed
+copied b at k s t e same = rw (same, e, drop-drop (length t) at b) (sym (append_assoc (take at b) t (drop (at + length t) b)))
+
 pub placed_none : (b : List ℕ) (at : ℕ) → b ≡ placed b at []
 unfolding placed
 placed_none b at = paste-zero b at []
@@ -107,11 +126,8 @@ pub placed_one : (b : List ℕ) (at x : ℕ) → at < length b → set b at x �
 unfolding placed
 placed_one b at x h = set_split b at x h ∙ sym (append_snoc (take at b) x (drop (suc at) b)) ∙ ap (λ (k : ℕ). take at b ++ (x ∷ []) ++ drop k b) (sym (add-one at))
 
--- a text and the byte that is stored after it
-pub placed_more : (b : List ℕ) (at : ℕ) (s : List ℕ) (x : ℕ) → at + length s < length b → set (placed b at s) (at + length s) x ≡ placed b at (s ++ (x ∷ []))
-placed_more b at s x h =
-    let room : at + length s ≤ length b = omega arith in
-    placed_one (placed b at s) (at + length s) x (omega (arith, length_placed b at s room)) ∙ placed_append b at s room (x ∷ [])
+pub length_stored : (b : List ℕ) (at x : ℕ) → length (set b at x) ≡ length b
+length_stored b at x = length-set b at x
 
 -- a byte that is stored before a text
 placed_later : (b : List ℕ) (at : ℕ) (s : List ℕ) (i x : ℕ) → i < at → at ≤ length b → set (placed b at s) i x ≡ placed (set b i x) at s
@@ -134,19 +150,8 @@ placed_before b at s x h =
 abbrev pub Put : List ℕ → ℕ → List ℕ → ℕ → List ℕ → Type 0
 Put b at t r b' = (r ≡ at + length t) × (b' ≡ placed b at t)
 
-pub put_then : (b : List ℕ) (at : ℕ) (s t : List ℕ) {r r' : ℕ} {b' b'' : List ℕ} → at + length s ≤ length b → Put b at s r b' → Put b' r t r' b'' → Put b at (s ++ t) r' b''
-put_then b at s t room p q = (omega (arith, length-append s t), q.1 ∙ rw (p.0, p.1) (placed_append b at s room t))
-
--- what a function that puts a text owes, where its test of the room was true, and where it was false
+-- what the promise says
 module _ (b : List ℕ) (at : ℕ) (t : List ℕ) where
-  pub put_done : {r : ℕ} {b' : List ℕ} → leb (at + length t) (length b) ≡ true → Put b at t r b' → PutPromise b at t r b'
-  unfolding place_after buffer_after
-  put_done h p = record { place = rw h p.0; bytes = rw h p.1 }
-
-  pub put_none : leb (at + length t) (length b) ≡ false → PutPromise b at t at b
-  unfolding place_after buffer_after
-  put_none h = record { place = rw h; bytes = rw h }
-
   -- what its caller learns, where the text fits
   pub put_fits : {r : ℕ} {b' : List ℕ} → at + length t ≤ length b → PutPromise b at t r b' → Put b at t r b'
   unfolding place_after buffer_after
@@ -155,18 +160,6 @@ module _ (b : List ℕ) (at : ℕ) (t : List ℕ) where
   -- any two places, and any two buffers, that the promise allows agree
   pub put_determined : {r r' : ℕ} {b' b'' : List ℕ} → PutPromise b at t r b' → PutPromise b at t r' b'' → (r ≡ r') × (b' ≡ b'')
   put_determined p q = (p.place ∙ sym q.place, p.bytes ∙ sym q.bytes)
-
--- a text at the start ends at its length
-pub put_start : (b t : List ℕ) {r : ℕ} {b' : List ℕ} → Put b 0 t r b' → (r ≡ length t) × (b' ≡ placed b 0 t)
-put_start b t p = (p.0 ∙ zero-add (length t), p.1)
-
--- the same of a text that is put after another
-pub put_next : (b : List ℕ) (at : ℕ) (s t : List ℕ) {r r' : ℕ} {b' b'' : List ℕ} → at + length s + length t ≤ length b
-    → Put b at s r b' → PutPromise b' r t r' b'' → Put b at (s ++ t) r' b''
-put_next b at s t {r} {r'} {b'} room p q =
-    let first : at + length s ≤ length b = omega arith in
-    let same : length b' ≡ length b = ap length p.1 ∙ length_placed b at s first in
-    put_then b at s t first p (put_fits b' r t (omega (arith, p.0)) q)
 
 -- ---- a line of three numbers
 
@@ -184,3 +177,13 @@ pub length_line : (x y z : ℕ) → length (line (x ∷ y ∷ z ∷ [])) ≡ len
 length_line x y z =
     ap length (line_three x y z)
     ∙ simp length-append (omega arith)
+
+pub placed_line : (b : List ℕ) (at x y z : ℕ) → at + length (line (x ∷ y ∷ z ∷ [])) ≤ length b
+    → placed (placed (placed b at (decimal x ++ (32 ∷ []))) (at + length (decimal x ++ (32 ∷ []))) (decimal y ++ (32 ∷ []))) (at + length (decimal x ++ (32 ∷ [])) + length (decimal y ++ (32 ∷ []))) (decimal z ++ (10 ∷ []))
+    ≡ placed b at (line (x ∷ y ∷ z ∷ []))
+placed_line b at x y z room =
+    let both : length (followed x 32 ++ followed y 32) ≡ length (followed x 32) + length (followed y 32) = length-append (followed x 32) (followed y 32) in
+    let first : at + length (followed x 32) ≤ length b = omega (arith, length_line x y z, length_followed x 32) in
+    let second : at + length (followed x 32 ++ followed y 32) ≤ length b = omega (arith, length_line x y z, length_followed x 32, length_followed y 32) in
+    let end : at + length (followed x 32) + length (followed y 32) ≡ at + length (followed x 32 ++ followed y 32) = omega arith in
+    rw (placed_append b at (followed x 32) first (followed y 32), end, placed_append b at (followed x 32 ++ followed y 32) second (followed z 10), ← line_three x y z)

@@ -1,6 +1,7 @@
 -- Text as bytes: a number in decimal, a line of numbers, and a text in a lent buffer.
-use Rattle.std.specs.Prelude.{ℕ, zero, suc, ◌+◌, ◌-◌, ◌*◌, ◌/◌, ◌%◌, ◌≡◌, List, [], ◌∷◌, ◌++◌, length, take, drop, ltb, leb}
+use Rattle.std.specs.Prelude.{ℕ, zero, suc, ◌+◌, ◌-◌, ◌*◌, ◌/◌, ◌%◌, ◌≡◌, List, [], ◌∷◌, ◌++◌, ◌≤◌, length, take, drop, ltb, leb}
 use Rattle.settle.specs.Test.{pick}
+use Rattle.text.specs.declared.Page.{Page}
 
 -- the digits of x, the most significant first and no leading zero, where '0' is 48: those of its tenth, and then its last. The first argument
 -- bounds how many there are
@@ -40,3 +41,22 @@ place_after buffer at text = pick (leb (at + length text) (length buffer)) (at +
 pub record PutPromise (old : List ℕ) (at : ℕ) (text : List ℕ) (after : ℕ) (new : List ℕ) : Type 0 where
   pub place : after ≡ place_after old at text
   pub bytes : new ≡ buffer_after old at text
+
+-- ---- a text put on a page, after what was put before
+
+-- the page is of the same buffer, and what the promise says of its bytes and its place
+pub record Puts (old : Page) (text : List ℕ) (new : Page) : Type 0 where
+  pub same_buffer : new.bytes.ghost_name ≡ old.bytes.ghost_name
+  pub length_stays : length new.bytes.now ≡ length old.bytes.now
+  pub promise : PutPromise old.bytes.now old.at text new.at new.bytes.now
+
+-- the text fits
+abbrev pub HasRoom : Page → List ℕ → Type 0
+HasRoom page text = page.at + length text ≤ length page.bytes.now
+
+-- a text that fits stands there, and the next goes after it
+pub record Added (old : Page) (text : List ℕ) (new : Page) : Type 0 where
+  pub same_buffer : new.bytes.ghost_name ≡ old.bytes.ghost_name
+  pub length_stays : length new.bytes.now ≡ length old.bytes.now
+  pub place : new.at ≡ old.at + length text
+  pub bytes : new.bytes.now ≡ placed old.bytes.now old.at text

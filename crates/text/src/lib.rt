@@ -1,101 +1,107 @@
-// Text in a lent buffer. Each `put` function writes at a place and answers the place after; where the
-// text does not fit, it writes nothing and answers the place that it was given.
+// Text in a lent buffer, put piece by piece. Each `put` method writes after what was put before; where the text does not fit, it writes nothing and
+// its place stays.
 #![tactic(auto)]
 
 ghost use Rattle.std.specs.Prelude.{◌≡◌, [], ◌∷◌, ◌++◌, ◌+◌, ◌≤◌, length, leb};
-ghost use Rattle.text.specs.Text.{decimal, line, placed, PutPromise};
+ghost use Rattle.text.specs.Text.{decimal, line, HasRoom, Added, Puts};
 
 // How many digits x has.
+#[tactic(auto, using(crate::proofs::Laws::width_power, crate::proofs::Laws::width_small))]
 fn width(x: usize) -> usize
     ensures { result ≡ length (decimal x) }
 {
-    let mut n: usize = 1;
-    let mut rest = x;
-    while 10 <= rest {
-        rest = rest / 10;
-        n = n + 1;
+    match x.checked_ilog10() {
+        Some(log) => log as usize + 1,
+        None => 1,
     }
-    n
 }
 
-// Whether n bytes fit at a place of a buffer of this size.
-fn has_room(size: usize, at: usize, n: usize) -> bool
-    ensures { result ≡ leb (at + n) size }
-{
-    if size < at {
-        return false;
-    }
-    n <= size - at
+// A lent buffer, and the place in it where the next text goes.
+#[derive(Drop)]
+pub struct Page<'a> {
+    pub bytes: &'a mut [u8],
+    pub at: usize,
 }
 
-// The digits of x, which have room.
-fn put_digits(buffer: &mut [u8], at: usize, x: usize) -> usize
-    requires { at + length (decimal x) ≤ length buffer.old }
-    ensures value { result ≡ at + length (decimal x) }
-    ensures buffer_after { buffer.new ≡ placed buffer.old at (decimal x) }
-{
-    if x < 10 {
-        buffer[at] = 48 + x as u8;
-        return at + 1;
+impl<'a> Page<'a> {
+    // A buffer with nothing put there yet.
+    pub fn new(bytes: &'a mut [u8]) -> Page<'a>
+        ensures same_buffer { result.bytes.ghost_name ≡ bytes.entry.ghost_name }
+        ensures empty { (result.at ≡ 0) × (result.bytes.now ≡ bytes.old) }
+    {
+        Page { bytes, at: 0 }
     }
-    let last = put_digits(buffer, at, x / 10);
-    buffer[last] = 48 + (x % 10) as u8;
-    last + 1
-}
 
-// A number in decimal.
-pub fn put_number(buffer: &mut [u8], at: usize, x: usize) -> usize
-    ensures { PutPromise buffer.old at (decimal x) result buffer.new }
-{
-    if has_room(buffer.len(), at, width(x)) {
-        return put_digits(buffer, at, x);
+    // Whether n bytes more fit.
+    fn has_room(&self, n: usize) -> bool
+        ensures { result ≡ leb (self.now.at + n) (length self.now.bytes.now) }
+    {
+        self.at <= self.bytes.len() && n <= self.bytes.len() - self.at
     }
-    at
-}
 
-// A number and the byte that follows it, which have room.
-fn put_followed(buffer: &mut [u8], at: usize, x: usize, byte: u8) -> usize
-    requires { at + length (decimal x ++ (byte ∷ [])) ≤ length buffer.old }
-    ensures value { result ≡ at + length (decimal x ++ (byte ∷ [])) }
-    ensures buffer_after { buffer.new ≡ placed buffer.old at (decimal x ++ (byte ∷ [])) }
-{
-    let after = put_digits(buffer, at, x);
-    buffer[after] = byte;
-    after + 1
-}
-
-// A line of three numbers.
-pub fn put_line(buffer: &mut [u8], at: usize, a: usize, b: usize, c: usize) -> usize
-    ensures { PutPromise buffer.old at (line (a ∷ b ∷ c ∷ [])) result buffer.new }
-{
-    if has_room(buffer.len(), at, width(a) + width(b) + width(c) + 3) {
-        let second = put_followed(buffer, at, a, b' ');
-        let third = put_followed(buffer, second, b, b' ');
-        return put_followed(buffer, third, c, b'\n');
+    // A byte, which has room.
+    #[tactic(auto, using(crate::proofs::Laws::placed_one, crate::proofs::Laws::length_stored))]
+    fn add_byte(&mut self, byte: u8)
+        requires { HasRoom self.old (byte ∷ []) }
+        ensures { Added self.old (byte ∷ []) self.new }
+    {
+        self.bytes[self.at] = byte;
+        self.at += 1;
     }
-    at
-}
 
-// Bytes as they are.
-pub fn put_bytes(buffer: &mut [u8], at: usize, text: &[u8]) -> usize
-    ensures { PutPromise buffer.old at text.now result buffer.new }
-{
-    if has_room(buffer.len(), at, text.len()) {
-        return copy(buffer, at, text);
+    // The digits of x, which have room. (Straight into the page: a text of its own, copied then, would be no plainer.)
+    #[tactic(auto, using(crate::proofs::Laws::width_step, crate::proofs::Laws::decimal_small, crate::proofs::Laws::decimal_step, crate::proofs::Laws::length_placed, crate::proofs::Laws::placed_append))]
+    fn add_digits(&mut self, x: usize)
+        requires { HasRoom self.old (decimal x) }
+        ensures { Added self.old (decimal x) self.new }
+    {
+        if 10 <= x {
+            self.add_digits(x / 10);
+        }
+        self.add_byte(b'0' + (x % 10) as u8);
     }
-    at
-}
 
-// Bytes as they are, which have room.
-fn copy(buffer: &mut [u8], at: usize, text: &[u8]) -> usize
-    requires { at + length text.now ≤ length buffer.old }
-    ensures value { result ≡ at + length text.now }
-    ensures buffer_after { buffer.new ≡ placed buffer.old at text.now }
-{
-    let mut i: usize = 0;
-    while i < text.len() {
-        buffer[at + i] = text[i];
-        i = i + 1;
+    // A number in decimal.
+    #[tactic(auto, unfolding(crate::specs::Text::place_after, crate::specs::Text::buffer_after))]
+    pub fn put_number(&mut self, x: usize)
+        ensures { Puts self.old (decimal x) self.new }
+    {
+        if self.has_room(width(x)) {
+            self.add_digits(x);
+        }
     }
-    at + text.len()
+
+    // A number and the byte that follows it, which have room.
+    #[tactic(auto, using(crate::proofs::Laws::length_followed, crate::proofs::Laws::length_placed, crate::proofs::Laws::placed_append))]
+    fn add_followed(&mut self, x: usize, byte: u8)
+        requires { HasRoom self.old (decimal x ++ (byte ∷ [])) }
+        ensures { Added self.old (decimal x ++ (byte ∷ [])) self.new }
+    {
+        self.add_digits(x);
+        self.add_byte(byte);
+    }
+
+    // A line of three numbers.
+    #[tactic(auto, using(crate::proofs::Laws::width_most, crate::proofs::Laws::length_followed, crate::proofs::Laws::length_line, crate::proofs::Laws::placed_line), unfolding(crate::specs::Text::place_after, crate::specs::Text::buffer_after))]
+    pub fn put_line(&mut self, a: usize, b: usize, c: usize)
+        ensures { Puts self.old (line (a ∷ b ∷ c ∷ [])) self.new }
+    {
+        if self.has_room(width(a) + width(b) + width(c) + 3) {
+            self.add_followed(a, b' ');
+            self.add_followed(b, b' ');
+            self.add_followed(c, b'\n');
+        }
+    }
+
+    // Bytes as they are.
+    #[tactic(auto, using(crate::proofs::Laws::copied), unfolding(crate::specs::Text::place_after, crate::specs::Text::buffer_after))]
+    pub fn put_bytes(&mut self, text: &[u8])
+        ensures { Puts self.old text.now self.new }
+    {
+        if self.has_room(text.len()) {
+            let end = self.at + text.len();
+            self.bytes[self.at..end].copy_from_slice(text);
+            self.at = end;
+        }
+    }
 }

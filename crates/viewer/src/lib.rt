@@ -6,14 +6,8 @@ ghost use Rattle.std.specs.Prelude.{◌≡◌, ◌≤◌};
 ghost use Rattle.calls.specs.Packing.{packed};
 ghost use Rattle.calls.specs.Shown.{lent, solved_in, BothShown, CheckShown, CompareShown, EqualPairsShown, EqualRowsShown, MarksShown, PropertyShown, ReasonsShown, ShortFormShown, SimulationShown};
 
-use both_solutions::BothAnswer;
-use check_reasons::CheckAnswer;
-use compare::CompareAnswer;
-use equal::EqualAnswer;
-use lent::LentAnswer;
 use refusal::Refusal;
-use relation::MatrixAnswer;
-use solve::{PropertyAnswer, Solved};
+use solve::Solved;
 
 // The refusal in one number. Its parts are small: a place is at most 3,172 in a chart, 403 in a sheet and 4,032 in a list,
 // a byte at most 2.
@@ -21,11 +15,10 @@ fn pack(refusal: Refusal) -> u64
     requires { (refusal.place ≤ 4032) × (refusal.byte ≤ 2) }
     ensures { result ≡ packed refusal }
 {
-    let input = refusal.input;
-    refusal.number as u64
-        + 256 * (refusal::input_number(input) as u64)
+    u64::from(refusal.number)
+        + 256 * u64::from(u8::from(refusal.input))
         + 65536 * (refusal.place as u64)
-        + 281474976710656 * (refusal.byte as u64)
+        + 281474976710656 * u64::from(refusal.byte)
 }
 
 // The marks of all pairs, in the buffer; the number of states and the rounds.
@@ -38,14 +31,13 @@ pub extern "C" fn rebatelion_marks(
 ) -> u64
     ensures { MarksShown chart.now buffer.old buffer.new (lent states.old states.new) (lent rounds.old rounds.new) result }
 {
-    let answer = marks::marks(chart, buffer);
-    match answer {
-        MatrixAnswer::Given(matrix) => {
+    match marks::marks(chart, buffer) {
+        Ok(matrix) => {
             *states = matrix.states as u64;
             *rounds = matrix.rounds as u64;
             0
         }
-        MatrixAnswer::Refused(r) => pack(r),
+        Err(r) => pack(r),
     }
 }
 
@@ -59,14 +51,13 @@ pub extern "C" fn rebatelion_simulation(
 ) -> u64
     ensures { SimulationShown chart.now buffer.old buffer.new (lent states.old states.new) (lent rounds.old rounds.new) result }
 {
-    let answer = simulation::simulation(chart, buffer);
-    match answer {
-        MatrixAnswer::Given(held) => {
+    match simulation::simulation(chart, buffer) {
+        Ok(held) => {
             *states = held.states as u64;
             *rounds = held.rounds as u64;
             0
         }
-        MatrixAnswer::Refused(r) => pack(r),
+        Err(r) => pack(r),
     }
 }
 
@@ -75,13 +66,12 @@ pub extern "C" fn rebatelion_simulation(
 pub extern "C" fn rebatelion_equal_rows(chart: &[u8], rows: &mut [u64; 64], states: &mut u64) -> u64
     ensures { EqualRowsShown chart.now rows.old rows.new (lent states.old states.new) result }
 {
-    let answer = equal::equal_rows(chart, rows);
-    match answer {
-        EqualAnswer::Counted(count) => {
+    match equal::equal_rows(chart, rows) {
+        Ok(count) => {
             *states = count as u64;
             0
         }
-        EqualAnswer::Refused(r) => pack(r),
+        Err(r) => pack(r),
     }
 }
 
@@ -90,13 +80,12 @@ pub extern "C" fn rebatelion_equal_rows(chart: &[u8], rows: &mut [u64; 64], stat
 pub extern "C" fn rebatelion_equal_pairs(chart: &[u8], pairs: &mut u64) -> u64
     ensures { EqualPairsShown chart.now (lent pairs.old pairs.new) result }
 {
-    let answer = equal::equal_pairs(chart);
-    match answer {
-        EqualAnswer::Counted(total) => {
+    match equal::equal_pairs(chart) {
+        Ok(total) => {
             *pairs = total as u64;
             0
         }
-        EqualAnswer::Refused(r) => pack(r),
+        Err(r) => pack(r),
     }
 }
 
@@ -111,15 +100,14 @@ pub extern "C" fn rebatelion_property(
 ) -> u64
     ensures { PropertyShown chart.now sheet.now (lent word.old word.new) (lent count.old count.new) (lent rounds.old rounds.new) result }
 {
-    let answer = property::property(chart, sheet);
-    match answer {
-        PropertyAnswer::Satisfied(solved) => {
+    match property::property(chart, sheet) {
+        Ok(solved) => {
             *word = solved.word;
             *count = solved.count as u64;
             *rounds = solved.rounds as u64;
             0
         }
-        PropertyAnswer::Refused(r) => pack(r),
+        Err(r) => pack(r),
     }
 }
 
@@ -142,14 +130,13 @@ pub extern "C" fn rebatelion_both_solutions(
 ) -> u64
     ensures { BothShown chart.now sheet.now least.old least.new greatest.old greatest.new result }
 {
-    let answer = both_solutions::both_solutions(chart, sheet);
-    match answer {
-        BothAnswer::Both(solutions) => {
+    match both_solutions::both_solutions(chart, sheet) {
+        Ok(solutions) => {
             put_solved(least, solutions.least);
             put_solved(greatest, solutions.greatest);
             0
         }
-        BothAnswer::Refused(r) => pack(r),
+        Err(r) => pack(r),
     }
 }
 
@@ -164,13 +151,12 @@ pub extern "C" fn rebatelion_short_form(
 ) -> u64
     ensures { ShortFormShown chart.now sheet.now name buffer.old buffer.new (lent written.old written.new) result }
 {
-    let answer = short_form::short_form(chart, sheet, name, buffer);
-    match answer {
-        LentAnswer::Written(length) => {
+    match short_form::short_form(chart, sheet, name, buffer) {
+        Ok(length) => {
             *written = length as u64;
             0
         }
-        LentAnswer::Refused(r) => pack(r),
+        Err(r) => pack(r),
     }
 }
 
@@ -185,14 +171,13 @@ pub extern "C" fn rebatelion_compare(
 ) -> u64
     ensures { CompareShown first.now second.now buffer.old buffer.new (lent written.old written.new) (lent rounds.old rounds.new) result }
 {
-    let answer = compare::compare(first, second, buffer);
-    match answer {
-        CompareAnswer::Compared(comparison) => {
+    match compare::compare(first, second, buffer) {
+        Ok(comparison) => {
             *written = comparison.written as u64;
             *rounds = comparison.rounds as u64;
             0
         }
-        CompareAnswer::Refused(r) => pack(r),
+        Err(r) => pack(r),
     }
 }
 
@@ -201,13 +186,12 @@ pub extern "C" fn rebatelion_compare(
 pub extern "C" fn rebatelion_reasons(chart: &[u8], buffer: &mut [u8], written: &mut u64) -> u64
     ensures { ReasonsShown chart.now buffer.old buffer.new (lent written.old written.new) result }
 {
-    let answer = reasons::reasons(chart, buffer);
-    match answer {
-        LentAnswer::Written(size) => {
+    match reasons::reasons(chart, buffer) {
+        Ok(size) => {
             *written = size as u64;
             0
         }
-        LentAnswer::Refused(r) => pack(r),
+        Err(r) => pack(r),
     }
 }
 
@@ -216,12 +200,11 @@ pub extern "C" fn rebatelion_reasons(chart: &[u8], buffer: &mut [u8], written: &
 pub extern "C" fn rebatelion_check_reasons(chart: &[u8], list: &[u8], lines: &mut u64) -> u64
     ensures { CheckShown chart.now list.now (lent lines.old lines.new) result }
 {
-    let answer = check_reasons::check_reasons(chart, list);
-    match answer {
-        CheckAnswer::Accepted(count) => {
+    match check_reasons::check_reasons(chart, list) {
+        Ok(count) => {
             *lines = count as u64;
             0
         }
-        CheckAnswer::Refused(r) => pack(r),
+        Err(r) => pack(r),
     }
 }

@@ -9,8 +9,8 @@ use native.Mathlib.Decide.{dec_lt}
 use lib.Bits.{bit_or, bit_and, or_block, and_block}
 use lib.Count.{ones, ones_cat}
 use lib.Pow.{low, field, mod-mod-pow, pow_pos, high, shr_lt, shl_exact, split, pow_mono}
-use lib.Dec.{eqb, lit<}
-use borrow.Author.Tests.{eq-eqb, ne_eqb}
+use lib.Dec.{eqb, ltb, lit<}
+use borrow.Author.Tests.{eq-eqb, ne_eqb, le-ltb}
 use Rattle.settle.specs.Test.{both, either, neg, tick, count}
 use Rattle.settle.specs.Finite.{below}
 use Rattle.words.specs.Words.{bit, word_of, member}
@@ -140,6 +140,10 @@ no_member n w s h l =
     let z : w / 2 ^ s ≡ 0 = omega (arith, shr_lt {n = w} 0 s small) in
     rw z
 
+-- no set has a state from 64 on
+pub no_state_from_64 : (w s : ℕ) → w < 2 ^ 64 → 64 ≤ s → ltb s 64 ≡ member w s
+no_state_from_64 w s h l = rw (no_member 64 w s h l) (le-ltb s 64 l)
+
 -- the empty set has none
 pub none_member : (s : ℕ) → member 0 s ≡ false
 none_member s = no_member 0 0 s (omega arith) (omega arith)
@@ -239,6 +243,9 @@ pub ones_word : (n : ℕ) (P : ℕ → Bool) → ones (word_of n P) ≡ count P 
 unfolding word_of ones count below
 ones_word zero P = refl
 ones_word (suc n) P = ones_cat n (bit (P n)) (word_of n P) (word_lt n P) ∙ ap (λ (x : ℕ). ones (bit (P n)) + x) (ones_word n P) ∙ ones_bit (P n) (count P (below n))
+
+pub size_of_word : (w n : ℕ) (P : ℕ → Bool) → w ≡ word_of n P → ones w ≡ count P (below n)
+size_of_word w n P e = ap ones e ∙ ones_word n P
 
 -- the code's 1 << x
 pub shl_one : (x : ℕ) → x < 64 → (1 * 2 ^ x) % 2 ^ 64 ≡ 2 ^ x

@@ -1,11 +1,9 @@
--- The loop keeps: what is left from number i on, at p, is judged as the whole is. The triples before number i stand before p.
-use Prim.Native.Nat.{◌*◌, ◌-◌, ◌≤◌}
+-- The loop keeps: what is left from number i on is judged as the whole is. The triples before number i stand before p.
+use Prim.Native.Nat.{◌+◌, ◌*◌, ◌-◌, ◌≤◌, ◌<◌}
 use mathlib.Core.Path.{◌≡◌}
+use lib.ListN.{length}
 use Rattle.chart.specs.Reading.{judge_triples}
 use Rattle.chart.proofs.judge_triples.Given as goal
 
 abbrev pub invariant-loop-i : goal.invariant-loop-i
-invariant-loop-i l = (judge_triples l.bytes l.n l.m l.at 0 l.t ≡ judge_triples l.bytes l.n l.m l.p l.i (l.t - l.i)) × (3 * l.i ≤ l.p)
-
-abbrev pub decreases-loop-i : goal.decreases-loop-i
-decreases-loop-i l = l.t - l.i
+invariant-loop-i l = (judge_triples l.bytes l.n l.m l.at 0 l.t ≡ judge_triples l.bytes l.n l.m (l.at + 3 * l.i) l.i (l.t - l.i)) × (0 < l.i → l.at + 3 * l.i ≤ length l.bytes)

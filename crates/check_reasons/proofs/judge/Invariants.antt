@@ -1,11 +1,7 @@
-use Prim.Native.Nat.{◌*◌, ◌-◌}
-use lib.ListN.{length}
-use Rattle.ranges.specs.Sources.{steps_by}
+-- The lines before number i are good, and the words hold their pairs.
+use Rattle.ranges.specs.Triples.{steps_of}
 use Rattle.check_reasons.proofs.Judged.{GoodSo}
 use Rattle.check_reasons.proofs.judge.Given as goal
 
 abbrev pub invariant-loop-i : goal.invariant-loop-i
-invariant-loop-i l = GoodSo l.n (steps_by l.chart l.at l.n l.first) l.list l.rows l.i
-
-abbrev pub decreases-loop-i : goal.decreases-loop-i
-decreases-loop-i l = length l.list - 5 * l.i
+invariant-loop-i l = GoodSo l.triples.shape.n (steps_of l.triples) l.list l.rows l.i

@@ -1,11 +1,8 @@
-use Prim.Native.Nat.{◌≤◌}
+-- The cells from y on are linked.
 use mathlib.Core.Path.{◌≡◌}
 use lib.ListN.{length}
-use Rattle.reasons.specs.Linked.{Linked}
+use Rattle.reasons.specs.Marked.{LinkedFrom}
 use Rattle.reasons.proofs.link.Given as goal
 
 abbrev pub invariant-loop-y : goal.invariant-loop-y
-invariant-loop-y l = (l.y ≤ l.cells) × (64 ≡ length l.head) × (4096 ≡ length l.next) × Linked l.matrix l.cells l.y l.head l.next
-
-abbrev pub decreases-loop-y : goal.decreases-loop-y
-decreases-loop-y l = l.y
+invariant-loop-y l = (length l.head ≡ 64) × (length l.next ≡ 4096) × LinkedFrom l.marked l.y l.head l.next

@@ -1,10 +1,7 @@
-use Prim.Native.Nat.{◌-◌, ◌≤◌}
-use Rattle.chart.specs.Reading.{bytes_at}
+-- The loop's invariant: the codes that were passed bear their flags.
+use Rattle.std.proofs.Common.{take}
 use Rattle.side_by_side.specs.Table.{Flagged}
 use Rattle.side_by_side.proofs.flag.Given as goal
 
-abbrev pub invariant-loop-i : goal.invariant-loop-i
-invariant-loop-i l = (l.i ≤ l.m) × Flagged (bytes_at l.chart l.at l.i) l.initial.table l.table
-
-abbrev pub decreases-loop-i : goal.decreases-loop-i
-decreases-loop-i l = l.m - l.i
+abbrev pub invariant-loop-code : goal.invariant-loop-code
+invariant-loop-code l = Flagged (take l.code-index l.codes) l.initial.flags l.flags

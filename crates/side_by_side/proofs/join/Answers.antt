@@ -1,21 +1,13 @@
-use mathlib.Core.Path.{sym, ◌∙◌}
-use Rattle.side_by_side.proofs.Promise.{refused_first, refused_second, both_accepted}
+-- Each byte of a slice is one.
+use native.Mathlib.Omega.{arith}
+use mathlib.Core.Path.{◌≡◌}
+use Rattle.std.proofs.lemmas.Grind.{common_steps}
+use Rattle.chart.proofs.Exactly.{known_bytes}
 use Rattle.side_by_side.proofs.join.Goals as goal
 
-pub returns-in-Refused : goal.returns-in-Refused
-returns-in-Refused c =
-    let a = c.args in
-    refused_first a.first.now a.second.now (sym c.read_chart.ensures.value ∙ c.in-Refused.is)
-
-pub returns-in-Refused-read_chart : goal.returns-in-Refused-read_chart
-returns-in-Refused-read_chart c =
-    let a = c.args in
-    refused_second a.first.now a.second.now (sym c.read_chart.ensures.value ∙ c.in-Chart.is) (sym c.read_chart-2.ensures.value ∙ c.in-Refused-read_chart.is) c.of_second.ensures
-
 pub together-requires : goal.together-requires
-together-requires c = (sym c.read_chart.ensures.value ∙ c.in-Chart.is, sym c.read_chart-2.ensures.value ∙ c.in-Chart-read_chart.is)
-
-pub returns : goal.returns
-returns c =
-    let a = c.args in
-    both_accepted a.first.now a.second.now (sym c.read_chart.ensures.value ∙ c.in-Chart.is) (sym c.read_chart-2.ensures.value ∙ c.in-Chart-read_chart.is) c.together.ensures
+together-requires c =
+    let first = known_bytes c.args.first.now (λ i. omega (arith, c.type_inv.first i)) in
+    let second = known_bytes c.args.second.now (λ i. omega (arith, c.type_inv.second i)) in
+    let same : c.in_ok-other.other.bytes.now ≡ c.args.second.now = grind (arith, common_steps) in
+    (rw c.in_ok-one.ensures.1 first, rw same second)

@@ -1,12 +1,6 @@
-use Prim.Native.Nat.{◌-◌, ◌≤◌}
-use mathlib.Core.Path.{◌≡◌}
-use lib.ListN.{length}
+-- The loop's invariant: the codes that were passed are numbered.
 use Rattle.side_by_side.proofs.Table.{Numbering}
 use Rattle.side_by_side.proofs.number.Given as goal
 
 abbrev pub invariant-loop-code : goal.invariant-loop-code
-invariant-loop-code l =
-    (l.code ≤ 256) × (length l.table ≡ 256) × (length l.codes ≡ 256) × Numbering l.initial.table l.table l.codes l.count l.code
-
-abbrev pub decreases-loop-code : goal.decreases-loop-code
-decreases-loop-code l = 256 - l.code
+invariant-loop-code l = Numbering l.flags l.places l.codes.items l.code

@@ -1,35 +1,18 @@
-use borrow.Author.Rules.{rules}
 use native.Mathlib.Omega.{arith}
-use mathlib.Core.Path.{sym, ◌∙◌}
 use Rattle.chart.proofs.Accepted.{accepted}
 use Rattle.relation.proofs.Cells.{cells_few}
-use Rattle.relation.proofs.Promise.{promise_chart, promise_short, promise_worked}
+use Rattle.relation.proofs.Promise.{promise_worked}
 use Rattle.simulation.proofs.Cells.{simulated}
 use Rattle.simulation.proofs.Promise.{simulation_of}
 use Rattle.simulation.proofs.simulation.Goals as goal
 
-pub returns-in-Refused : goal.returns-in-Refused
-returns-in-Refused c = promise_chart _ _ _ (sym c.read_chart.ensures.value ∙ c.in-Refused.is)
-
 pub overflow_mul-n : goal.overflow_mul-n
-overflow_mul-n c =
-    let read = sym c.read_chart.ensures.value ∙ c.in-Chart.is in
-    omega (arith, cells_few _ (accepted _ _ read).states_few)
-
-pub returns-then-buffer-n : goal.returns-then-buffer-n
-returns-then-buffer-n c =
-    let read = sym c.read_chart.ensures.value ∙ c.in-Chart.is in
-    promise_short _ _ read _ _ c.if-buffer-n.true c.of_lent.ensures
-
-pub work_out-settled-requires : goal.work_out-settled-requires
-work_out-settled-requires c = sym c.read_chart.ensures.value ∙ c.in-Chart.is
+overflow_mul-n c = omega (arith, cells_few _ (accepted _ _ c.in_ok-chart.chart.read).states_few)
 
 pub put_cells-requires : goal.put_cells-requires
-put_cells-requires c =
-    let read = sym c.read_chart.ensures.value ∙ c.in-Chart.is in
-    record { n_bound = ((accepted _ _ read).states_few, c.if-buffer-n.false); rows_len = search rules }
+put_cells-requires c = ((accepted _ _ c.in_ok-chart.chart.read).states_few, omega arith)
 
 pub returns : goal.returns
 returns c =
-    let read = sym c.read_chart.ensures.value ∙ c.in-Chart.is in
-    promise_worked _ _ read _ _ _ c.if-buffer-n.false (simulated _ c.work_out-settled.ensures c.put_cells.ensures) (λ some targets w. simulation_of _ _ targets w)
+    let read = c.in_ok-chart.ensures in
+    promise_worked _ _ read.0 _ _ _ (omega arith) (simulated _ (rw read.1 at c.work_out-settled.ensures) c.put_cells.ensures) (λ some targets w. simulation_of _ _ targets w)

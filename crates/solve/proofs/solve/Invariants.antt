@@ -1,21 +1,13 @@
-use Prim.Native.Nat.{ℕ, ◌-◌}
 use mathlib.Core.Path.{◌≡◌}
-use mathlib.Core.List.{List}
-use lib.ListN.{length}
-use Rattle.chart.specs.Reading.{chart_in}
-use Rattle.steps.specs.Table.{Table}
-use Rattle.evaluate.specs.Evaluating.{Remembers, SameRows}
-use Rattle.solve.specs.Solving.{application, first_set}
-use Rattle.solve.proofs.Solving.{Rounding}
+use Rattle.sheet.specs.Kinds.{kind_number}
+use Rattle.solve.specs.Solving.{first_set}
+use Rattle.solve.proofs.Solving.{Going}
 use Rattle.solve.proofs.solve.Given as goal
 
--- the rows stay those of the table that was made
-abbrev pub invariant-rounds : goal.invariant-rounds
-invariant-rounds l =
-    (length l.work ≡ length l.initial.work)
-    × ((made : List ℕ) × Table l.shape.n l.shape.m (chart_in l.chart l.shape).steps made × SameRows l.shape.n l.shape.m made l.work)
-    × Remembers l.shape.n l.shape.m l.sheet l.work
-    × Rounding l.shape.n (application l.chart l.shape l.sheet l.nodes) (first_set l.kind) l.set l.next l.rounds
-
-abbrev pub decreases-rounds : goal.decreases-rounds
-decreases-rounds l = 4096 - l.rounds
+abbrev pub invariant-loop-rounds : goal.invariant-loop-rounds
+invariant-loop-rounds l = record {
+  same_n : l.work.n ≡ l.chart.shape.n;
+  same_m : l.work.m ≡ l.chart.shape.m;
+  same_sheet : l.work.sheet.now ≡ l.sheet;
+  going : Going l.chart.bytes.now l.chart.shape l.sheet l.nodes (first_set (kind_number l.fn.kind)) l.work.words.now l.set l.rounds;
+}

@@ -1,4 +1,4 @@
-use Prim.Native.Nat.{ℕ, ◌+◌, ◌^◌, ◌<◌}
+use Prim.Native.Nat.{ℕ, ◌+◌, ◌<◌}
 use mathlib.Core.Path.{◌≡◌}
 use mathlib.Core.Bool.{So}
 use lib.ListN.{length, get_or}
@@ -8,10 +8,8 @@ use Rattle.falls.specs.Round.{apart}
 use Rattle.falls.proofs.round.lost.Given as goal
 
 -- what is found lost or still to come is the answer
-abbrev pub invariant-loop-left : goal.invariant-loop-left
-invariant-loop-left l =
-    (l.left < 2 ^ 64) × ((q : ℕ) → So (member l.left q) → l.base + q < length l.out)
-    × ((q : ℕ) → either (member l.gone q) (both (member l.left q) (apart (get_or l.out (l.base + q) 0) l.row)) ≡ both (member l.candidates q) (apart (get_or l.out (l.base + q) 0) l.row))
-
-abbrev pub decreases-loop-left : goal.decreases-loop-left
-decreases-loop-left l = l.left
+abbrev pub invariant-loop-q : goal.invariant-loop-q
+invariant-loop-q l =
+    goal.iterator-loop-q.can_next l.q-iterator × goal.iterator-loop-q.is_finite l.q-iterator
+    × ((q : ℕ) → So (member l.q-iterator.left q) → l.base + q < length l.out)
+    × ((q : ℕ) → either (member l.gone q) (both (member l.q-iterator.left q) (apart (get_or l.out (l.base + q) 0) l.row)) ≡ both (member l.candidates q) (apart (get_or l.out (l.base + q) 0) l.row))

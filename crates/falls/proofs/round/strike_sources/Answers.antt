@@ -1,9 +1,10 @@
+use borrow.Author.Rules.{rules}
+use mathlib.Core.Path.{◌≡◌}
 use Rattle.falls.proofs.Striking.{strike_none, strike_word}
 use Rattle.falls.proofs.round.strike_sources.Goals as goal
 
-pub returns-then-sources-eq0 : goal.returns-then-sources-eq0
-returns-then-sources-eq0 c = let h = c.requires.within in
-    record { keeps = strike_none h.0 _ _ c.if-sources-eq0.true; next_len = h.1 }
+pub returns-then-sources-ne0 : goal.returns-then-sources-ne0
+returns-then-sources-ne0 c = strike_word c.requires.within {new = c.strike.new.rows} _ _ _ c.keeping.ensures c.strike.ensures
 
-pub returns : goal.returns
-returns c = record { keeps = strike_word c.requires.within.0 {new = c.strike.new.rows} _ _ _ c.keeping.ensures c.strike.ensures.by_index; next_len = c.strike.ensures.rows_len }
+pub returns-else-sources-ne0 : goal.returns-else-sources-ne0
+returns-else-sources-ne0 c = let none : c.args.sources ≡ 0 = search rules in strike_none c.requires.within _ _ none

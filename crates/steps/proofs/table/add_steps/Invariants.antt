@@ -1,15 +1,12 @@
-use mathlib.Core.Path.{◌≡◌}
-use Prim.Native.Nat.{ℕ, ◌+◌, ◌*◌, ◌-◌, ◌≤◌, ◌<◌}
-use lib.ListN.{length}
-use Rattle.chart.specs.Reading.{step_at, steps_at}
-use Rattle.steps.specs.Table.{Table, directed}
+use Prim.Native.Nat.{ℕ, ◌+◌, ◌≤◌, ◌<◌}
+use Rattle.chart.specs.Reading.{steps_at}
+use Rattle.steps.specs.Table.{Table, triple_at, directed}
 use Rattle.steps.proofs.table.add_steps.Given as goal
 
--- the loop knows m by where the triples begin
+-- the triples before i are in, and those from `first` on are of no later source
 abbrev pub invariant-loop-i : goal.invariant-loop-i
 invariant-loop-i l =
-    (l.i ≤ l.t) × (length l.into ≡ length l.initial.into) × ((m : ℕ) → l.at ≡ 4 + l.n + m → Table l.n m (directed l.back (steps_at l.chart l.at l.i)) l.into)
-    × (l.first ≤ l.i) × ((j : ℕ) → l.first ≤ j → j < l.i → (step_at l.chart (l.at + 3 * j)).source ≤ l.s)
-
-abbrev pub decreases-loop-i : goal.decreases-loop-i
-decreases-loop-i l = l.t - l.i
+    record {
+      table : Table l.chart.shape.n l.chart.shape.m (directed l.direction (steps_at l.chart.bytes.now (4 + l.chart.shape.n + l.chart.shape.m) l.i)) l.into;
+      sources : (j : ℕ) → l.first ≤ j → j < l.i → (triple_at l.chart.bytes.now l.chart.shape j).source ≤ l.s;
+    }

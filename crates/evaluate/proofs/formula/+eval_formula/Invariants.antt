@@ -1,6 +1,0 @@
--- the nodes still unread fall at each call
-use Rattle.std.proofs.Common.{◌/◌}
-use Rattle.evaluate.proofs.formula.+eval_formula.Given as goal
-
-abbrev pub decreases-eval_formula : goal.decreases-eval_formula
-decreases-eval_formula l = l.next.now / 512

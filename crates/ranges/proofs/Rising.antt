@@ -1,0 +1,37 @@
+-- The triples of an accepted chart rise, and not only from each to the next. Assumes nothing.
+use Prim.Native.Nat.{ℕ, suc, ◌+◌, ◌*◌, ◌≤◌, ◌<◌}
+use mathlib.Core.Path.{◌≡◌}
+use mathlib.Core.List.{List}
+use native.Mathlib.Omega.{arith}
+use native.Mathlib.Decide.{le_ind}
+use lib.ListN.{get_or}
+use Rattle.chart.specs.Chart.{Step}
+use Rattle.chart.specs.Layout.{Earlier}
+use Rattle.chart.specs.Reading.{step_at}
+use Rattle.chart.specs.declared.Shape.{Shape}
+use Rattle.chart.proofs.Accepted.{Accepted, accepted}
+use Rattle.chart.proofs.Rising.{less_trans}
+use Rattle.ranges.specs.Sources.{TriplesRise, Ranged}
+
+earlier_trans : (a b c : Step) → Earlier a b → Earlier b c → Earlier a c
+earlier_trans a b c = less_trans a.source a.action a.target b.source b.action b.target c.source c.action c.target
+
+module _ (s : List ℕ) (sh : Shape) (A : Accepted s sh) (i : ℕ) where
+  abbrev Before : ℕ → Type 0
+  Before k = Earlier (step_at s (4 + sh.n + sh.m + 3 * i)) (step_at s (4 + sh.n + sh.m + 3 * k))
+
+  one_more : (k : ℕ) → suc i ≤ k → (k < sh.t → Before k) → suc k < sh.t → Before (suc k)
+  one_more k h below l =
+      let e : k + 1 ≡ suc k = omega arith in
+      earlier_trans _ _ _ (below (omega arith)) (rw e at (A.steps_rise k (omega arith)))
+
+  rises : (j : ℕ) → i < j → j < sh.t → Before j
+  rises j h =
+      let e : i + 1 ≡ suc i = omega arith in
+      le_ind (λ k. k < sh.t → Before k) (λ l. rw e at (A.steps_rise i (omega arith))) one_more j h
+
+pub triples_rise : (s : List ℕ) (sh : Shape) → Accepted s sh → TriplesRise s (4 + sh.n + sh.m) sh.t
+triples_rise = rises
+
+pub ranged_rise : {bytes : List ℕ} {sh : Shape} {at : ℕ} {first : List ℕ} → Ranged bytes sh at first → TriplesRise bytes at (get_or first sh.n 0)
+ranged_rise {bytes} {sh} r = rw (r.at_is, r.all_are) (triples_rise bytes sh (accepted bytes sh r.read))

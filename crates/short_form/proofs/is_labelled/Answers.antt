@@ -1,4 +1,0 @@
-use Rattle.short_form.proofs.is_labelled.Goals as goal
-
-pub returns : goal.returns
-returns c = rw c.if-action.false
