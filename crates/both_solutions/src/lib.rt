@@ -22,7 +22,7 @@ pub fn both_solutions(chart: &[u8], sheet: &[u8]) -> Result<Solutions, Refusal>
 {
     let chart = AcceptedChart::read(chart)?;
     let outline = sheet::read_sheet(sheet, chart.shape.m)?;
-    let least = solve::solve_in_room(&chart, sheet, outline.nodes, Kind::Least)?;
-    let greatest = solve::solve_in_room(&chart, sheet, outline.nodes, Kind::Greatest)?;
+    let least = solve::solve_in_room(&chart, sheet, outline.nodes, u8::from(Kind::Least))?;
+    let greatest = solve::solve_in_room(&chart, sheet, outline.nodes, u8::from(Kind::Greatest))?;
     Ok(Solutions { least, greatest })
 }

@@ -3,3 +3,4 @@ pub mod Putting
 pub mod Choosing
 pub mod Determined
 pub mod Chosen
+pub mod Asked

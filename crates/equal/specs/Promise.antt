@@ -22,7 +22,7 @@ TellsEqual n steps P = (p q : ℕ) → p < n → q < n → So (P (p, q)) ↔ Bis
 abbrev pub pairs_in : List ℕ → Relation
 pairs_in rows x = in_rows rows x.0 x.1
 
--- ---- the words. The proof does not learn how many were lent, so it is said of those that are there (docs/DECISIONS.md, 74)
+-- ---- the words. They are said of the places that are there, however many were lent (docs/DECISIONS.md, 83)
 
 -- bit q of word p is set exactly if p and q are equal states; so words and bits from n on are 0
 pub record EqualRows (n : ℕ) (steps : List Step) (old new : List ℕ) : Type 0 where

@@ -14,5 +14,5 @@ pub fn property(chart: &[u8], sheet: &[u8]) -> Result<Solved, Refusal>
 {
     let chart = AcceptedChart::read(chart)?;
     let outline = sheet::read_sheet(sheet, chart.shape.m)?;
-    solve::solve_in_room(&chart, sheet, outline.nodes, outline.kind)
+    solve::solve_in_room(&chart, sheet, outline.nodes, u8::from(outline.kind))
 }

@@ -57,6 +57,6 @@ stands_read bytes sh e = stands_chart bytes sh (accepted bytes sh e)
 pub shape_few : (bytes : List ℕ) (sh : Shape) → read_chart bytes ≡ Ok sh → (sh.n ≤ 64) × (sh.m ≤ 32)
 shape_few bytes sh e = let a = accepted bytes sh e in (a.states_few, a.actions_few)
 
--- the triples of an accepted chart, with their sources, are its steps
-pub steps_are : {bytes : List ℕ} {sh : Shape} {at : ℕ} {first : List ℕ} → Ranged bytes sh at first → steps_by bytes at sh.n first ≡ (chart_in bytes sh).steps
-steps_are r = rw (r.at_is, r.all_are)
+-- the triples of a chart, all of them, are its steps
+pub steps_are : {bytes : List ℕ} {sh : Shape} {at : ℕ} {first : List ℕ} → at ≡ 4 + sh.n + sh.m → Ranged bytes sh at first → steps_by bytes at sh.n first ≡ (chart_in bytes sh).steps
+steps_are e r = rw (e, r.all_are)

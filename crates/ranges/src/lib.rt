@@ -6,7 +6,8 @@ ghost use Rattle.ranges.specs.Sources.{Stands, Past, Sorted, Ranged, Leads, acti
 
 use chart::{AcceptedChart, Shape};
 
-// The triples of an accepted chart, from `at` on in its bytes. The steps of p are the triples first[p] .. first[p + 1].
+// Rising triples of n states, as those of an accepted chart are: t of them, from `at` on in the bytes. The steps of p are the triples
+// first[p] .. first[p + 1].
 #[derive(Drop)]
 pub struct Triples<'a> {
     pub bytes: &'a [u8],
@@ -46,9 +47,9 @@ pub fn sources(bytes: &[u8], at: usize, t: usize, n: usize) -> [usize; 65]
 
 impl<'a> Triples<'a> {
     // The triples of the chart.
-    #[tactic(auto, using(crate::proofs::Ranges::stands_read, crate::proofs::Ranges::shape_few))]
+    #[tactic(auto, using(crate::proofs::Ranges::stands_read, crate::proofs::Ranges::shape_few, crate::proofs::Rising::rise_read))]
     pub fn of(chart: &AcceptedChart<'a>) -> Triples<'a>
-        ensures { (result.bytes.now ≡ chart.now.bytes.now) × (result.shape ≡ chart.now.shape) }
+        ensures { (result.bytes.now ≡ chart.now.bytes.now) × (result.shape ≡ chart.now.shape) × (result.at ≡ 4 + result.shape.n + result.shape.m) }
     {
         let bytes = chart.bytes;
         let shape = chart.shape;

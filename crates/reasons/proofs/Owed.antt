@@ -80,10 +80,10 @@ module _ (chart : List ℕ) where
 
 -- ---- over the triples of the chart
 
-module _ (t : Triples) where
+module _ (t : Triples) (read : read_chart t.bytes.now ≡ Ok t.shape) (all : t.at ≡ 4 + t.shape.n + t.shape.m) where
   -- the matrix has their marks
   pub triples_marked : {bytes old new : List ℕ} → t.bytes.now ≡ bytes → 4096 ≡ length old → {given : Matrix} → MarksPromise bytes old new (Ok given)
       → (t.shape.n * t.shape.n ≤ length new) × MarksAre t.shape.n (steps_of t) (mark_in t.shape.n new) × MarksBelow t.shape.n new
   triples_marked {bytes} {old} {new} e room {given} p =
       let q : MarksPromise t.bytes.now old new (Ok given) = rw e p in
-      (marks_stand t.bytes.now t.shape t.ranged.read old new room q, rw (steps_are t.ranged) (marks_are t.bytes.now t.shape t.ranged.read old new room q), marks_below t.bytes.now t.shape t.ranged.read old new room q)
+      (marks_stand t.bytes.now t.shape read old new room q, rw (steps_are all t.ranged) (marks_are t.bytes.now t.shape read old new room q), marks_below t.bytes.now t.shape read old new room q)

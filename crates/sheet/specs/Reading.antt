@@ -8,6 +8,7 @@ use Rattle.sheet.specs.Formula.{Label, only, every, Formula, variable, top, bott
 use Rattle.sheet.specs.Layout.{encode, WellFormed}
 use Rattle.sheet.specs.Kinds.{kind_number, kind_of}
 use Rattle.sheet.specs.declared.Outline.{Outline}
+use Rattle.sheet.specs.declared.Ended.{Ended}
 use Rattle.sheet.specs.declared.Unread.{Unread}
 use Rattle.std.specs.Prelude.{Result, Ok, Err}
 
@@ -106,6 +107,14 @@ read_sheet s m =
 abbrev pub formula_read : Parsed → Result Unread Refusal
 formula_read (parsed f at left) = Ok (record { at = at; left = left })
 formula_read (wrong r) = Err r
+
+-- the same by how reading ended, and what was unread then: 13, 11 and 12 are told at the place that it came to, 1 at the end of the bytes
+abbrev pub ended_read : ℕ → Unread → Ended → Result Unread Refusal
+ended_read len next Ended.Whole = Ok next
+ended_read len next Ended.UsedUp = Err (sheet_refusal 13 next.at)
+ended_read len next Ended.Absent = Err (sheet_refusal 1 len)
+ended_read len next Ended.UnknownNode = Err (sheet_refusal 11 next.at)
+ended_read len next Ended.UnknownAction = Err (sheet_refusal 12 next.at)
 
 abbrev pub sheet_read : Sheet → Result Outline Refusal
 sheet_read (sheet kind count f) = Ok (record { kind = kind_of kind; nodes = count })

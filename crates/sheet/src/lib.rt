@@ -5,7 +5,7 @@ ghost use Rattle.std.specs.Prelude.{◌+◌, ◌*◌, ◌≤◌, ◌<◌, ◌≡
 ghost use Rattle.settle.specs.Test.{pick};
 ghost use Rattle.refusal.specs.Refusal.{sheet_refusal};
 ghost use Rattle.sheet.specs.Kinds.{kind_number, kind_read};
-ghost use Rattle.sheet.specs.Reading.{parse, formula_read, read_nodes, read_sheet, sheet_read, AcceptedExactly};
+ghost use Rattle.sheet.specs.Reading.{parse, formula_read, ended_read, read_nodes, read_sheet, sheet_read, AcceptedExactly};
 
 use refusal::Refusal;
 
@@ -29,6 +29,19 @@ impl TryFrom<u8> for Kind {
             1 => Ok(Kind::Least),
             2 => Ok(Kind::Greatest),
             _ => Err(Refusal::of_sheet(9, 1)),
+        }
+    }
+}
+
+// The byte of a kind.
+impl From<Kind> for u8 {
+    ghost from_gives = { λ kind byte. byte ≡ kind_number kind };
+
+    fn from(kind: Kind) -> u8 {
+        match kind {
+            Kind::Unsaid => 0,
+            Kind::Least => 1,
+            Kind::Greatest => 2,
         }
     }
 }
@@ -64,43 +77,70 @@ fn action_known(action: u8, m: usize) -> bool
     usize::from(action) < m || action == 255
 }
 
-// The formula at a place, of at most left nodes, in the first len bytes. Nodes used up are told before the next byte is looked at.
+// How reading a formula ends: after all of it, or at its first fault.
+#[derive(Clone, Copy)]
+enum Ended {
+    Whole,
+    UsedUp,
+    Absent,
+    UnknownNode,
+    UnknownAction,
+}
+
+impl Ended {
+    // What is unread after all of the formula, or the refusal, of a sheet of so many bytes.
+    fn read(self, next: Unread, len: usize) -> Result<Unread, Refusal>
+        ensures { result ≡ ended_read len next self }
+    {
+        match self {
+            Ended::Whole => Ok(next),
+            Ended::UsedUp => Err(Refusal::of_sheet(13, next.at)),
+            Ended::Absent => Err(Refusal::of_sheet(1, len)),
+            Ended::UnknownNode => Err(Refusal::of_sheet(11, next.at)),
+            Ended::UnknownAction => Err(Refusal::of_sheet(12, next.at)),
+        }
+    }
+}
+
+// The formula at the next place, of at most so many nodes as are left, in the first len bytes; then what is unread goes on after it, or from its first
+// fault. Nodes used up are told before the next byte is looked at. The answer is one small value, and no refusal: by it the call for the last operand
+// is a jump, and a formula that is nested deeply takes no more room or time for each operand than one that is not.
 #[tactic(auto, using(crate::proofs::Reading::formula_by_node))]
-fn read_formula(
-    bytes: &[u8; 512],
-    len: usize,
-    m: usize,
-    at: usize,
-    left: usize,
-) -> Result<Unread, Refusal>
-    requires { (length bytes.now ≡ 512) × (at + 2 * left ≤ 510) }
-    ensures { result ≡ formula_read (parse left (take len bytes.now) m at left) }
+fn read_formula(bytes: &[u8; 512], len: usize, m: usize, next: &mut Unread) -> Ended
+    requires { (length bytes.now ≡ 512) × (next.old.at + 2 * next.old.left ≤ 510) }
+    ensures { ended_read len next.new result ≡ formula_read (parse next.old.left (take len bytes.now) m next.old.at next.old.left) }
 {
-    if left == 0 {
-        return Err(Refusal::of_sheet(13, at));
+    if next.left == 0 {
+        return Ended::UsedUp;
     }
-    if len <= at {
-        return Err(Refusal::of_sheet(1, len));
+    if len <= next.at {
+        return Ended::Absent;
     }
-    match bytes[at] {
-        0..=2 => Ok(Unread {
-            at: at + 1,
-            left: left - 1,
-        }),
+    next.left -= 1;
+    match bytes[next.at] {
+        0..=2 => {
+            next.at += 1;
+            Ended::Whole
+        }
         3 | 4 => {
-            let first = read_formula(bytes, len, m, at + 1, left - 1)?;
-            read_formula(bytes, len, m, first.at, first.left)
+            next.at += 1;
+            match read_formula(bytes, len, m, next) {
+                Ended::Whole => read_formula(bytes, len, m, next),
+                fault => fault,
+            }
         }
         5 | 6 => {
-            if len <= at + 1 {
-                return Err(Refusal::of_sheet(1, len));
+            if len <= next.at + 1 {
+                return Ended::Absent;
             }
-            if action_known(bytes[at + 1], m) {
-                return read_formula(bytes, len, m, at + 2, left - 1);
+            if action_known(bytes[next.at + 1], m) {
+                next.at += 2;
+                return read_formula(bytes, len, m, next);
             }
-            Err(Refusal::of_sheet(12, at + 1))
+            next.at += 1; // the action byte's place
+            Ended::UnknownAction
         }
-        _ => Err(Refusal::of_sheet(11, at)),
+        _ => Ended::UnknownNode,
     }
 }
 
@@ -114,7 +154,9 @@ fn formula_after(bytes: &[u8], m: usize, nodes: usize) -> Result<Unread, Refusal
     let mut first = [0u8; 512];
     let end = bytes.len().min(512);
     first[..end].copy_from_slice(&bytes[..end]);
-    read_formula(&first, bytes.len(), m, 3, nodes)
+    let mut next = Unread { at: 3, left: nodes };
+    let ended = read_formula(&first, bytes.len(), m, &mut next);
+    ended.read(next, bytes.len())
 }
 
 // The count of nodes and the formula, after the kind.

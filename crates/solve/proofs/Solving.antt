@@ -1,5 +1,5 @@
 -- The rounds, on words: what one application gives, and when it changes nothing.
-use Prim.Native.Nat.{ℕ, suc, ◌+◌, ◌-◌, ◌<◌, ◌≤◌, ◌^◌}
+use Prim.Native.Nat.{ℕ, zero, suc, ◌+◌, ◌-◌, ◌<◌, ◌≤◌, ◌^◌}
 use mathlib.Core.Path.{◌≡◌, refl, ap, sym, ◌∙◌}
 use mathlib.Core.Bool.{Bool}
 use mathlib.Core.List.{List}
@@ -8,6 +8,7 @@ use Rattle.steps.proofs.Filling.{table_few}
 use native.Mathlib.Numerals.{add-one}
 use lib.ListN.{length}
 use borrow.Author.Count.{below_more}
+use borrow.Author.Tests.{ne_eqb, le-ltb}
 use Rattle.settle.specs.Finite.{below}
 use Rattle.settle.specs.Chain.{Same, empty, full, chain, Settled, Rounds}
 use Rattle.settle.proofs.Finite.{below_e, below_i}
@@ -27,7 +28,8 @@ use Rattle.evaluate.specs.Evaluating.{table_word, memo_at, Remembers, SameRows, 
 use Rattle.evaluate.proofs.Modal.{table_holds}
 use Rattle.evaluate.proofs.Rows.{read_labels, word_same}
 use Rattle.evaluate.proofs.Stepped.{remembers_none}
-use Rattle.solve.specs.Solving.{application, Reached}
+use Rattle.solve.specs.Solving.{application, first_set, Reached}
+use Rattle.sheet.specs.Kinds.{kind_number, kind_of}
 
 pub empty_word : (n : ℕ) → 0 ≡ word_of n empty
 unfolding empty
@@ -36,6 +38,12 @@ empty_word n = sym (word_none n)
 pub full_word : (n : ℕ) → 2 ^ n - 1 ≡ word_of n full
 unfolding full
 full_word n = sym (all_word n)
+
+-- a byte and the kind that it stands for ask for the same end
+pub same_end : (byte : ℕ) → first_set (kind_number (kind_of byte)) ≡ first_set byte
+same_end zero = refl
+same_end (suc zero) = refl
+same_end (suc (suc byte)) = rw (ne_eqb (suc (suc byte)) 0 (λ e. omega arith), ne_eqb (suc (suc byte)) 1 (λ e. omega arith), le-ltb (suc (suc byte)) 2 (omega arith))
 
 -- ---- by the table of the chart's steps
 

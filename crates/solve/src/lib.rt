@@ -2,7 +2,7 @@
 #![tactic(auto)]
 
 ghost use Rattle.std.specs.Prelude.{◌≡◌, ◌≤◌, ◌<◌, ◌^◌, length};
-ghost use Rattle.sheet.specs.Kinds.{kind_number};
+ghost use Rattle.sheet.specs.Kinds.{kind_number, kind_of};
 ghost use Rattle.sheet.specs.Reading.{parse};
 ghost use Rattle.words.specs.Words.{word_of};
 ghost use Rattle.steps.specs.Table.{Blank};
@@ -101,7 +101,7 @@ fn solve_in<const N: usize>(
 
 // The same in the least of three sizes that is enough: each word has to be made 0, which a small chart would pay for.
 #[tactic(auto, using(crate::proofs::Solving::actions_few, crate::proofs::Solving::work_few))]
-pub fn solve_in_room(
+fn solve_kind(
     chart: &AcceptedChart,
     sheet: &[u8],
     nodes: usize,
@@ -119,4 +119,29 @@ pub fn solve_in_room(
         return solve_in::<1024>(chart, sheet, nodes, kind);
     }
     solve_in::<2916>(chart, sheet, nodes, kind)
+}
+
+// The kind that a byte stands for. What no sheet has, above 2, is taken for the greatest.
+fn kind_of(byte: u8) -> Kind
+    ensures { result ≡ kind_of byte }
+{
+    match byte {
+        0 => Kind::Unsaid,
+        1 => Kind::Least,
+        _ => Kind::Greatest,
+    }
+}
+
+// The same, with the kind by its byte: any may be given.
+pub fn solve_in_room(
+    chart: &AcceptedChart,
+    sheet: &[u8],
+    nodes: usize,
+    kind: u8,
+) -> Result<Solved, Refusal>
+    requires was_read { WasRead (parse nodes sheet.now chart.now.shape.m 3 nodes) }
+    requires sheet_len_bound { length sheet.now ≤ 402 }
+    ensures { Solves chart.now.shape.n (application chart.now.bytes.now chart.now.shape sheet.now nodes) (first_set kind) result }
+{
+    solve_kind(chart, sheet, nodes, kind_of(kind))
 }

@@ -6,10 +6,9 @@ use mathlib.Core.List.{List, [], ◌∷◌, ◌++◌, append_assoc}
 use native.Mathlib.Omega.{arith}
 use native.Mathlib.Numerals.{add-one, unary_clauses}
 use native.Mathlib.Decide.{dec_lt}
-use lib.ListN.{length, take, drop, set, length-append, length-drop, length-set}
-use lib.Seq.{length-take-le, take_at, drop_at, drop-drop, append_snoc, set_split, set-append_left, take-set-lt, drop-set-lt, paste-zero}
+use lib.ListN.{length, get_or, take, drop, set, length-append, length-drop, length-set}
+use lib.Seq.{length-take-le, take_at, drop_at, drop-drop, append_snoc, set_split, set-append_left, take-set-lt, drop-set-lt, paste, paste-zero, paste-suc, take-length}
 use lib.Dec.{leb}
-use borrow.Rule.Slice.PartMut.{put_mid}
 use mathlib.Core.Bool.{true}
 use borrow.Author.Tests.{lt-ltb, le-ltb, le-leb}
 use Rattle.text.specs.Text.{digits, decimal, line, placed, buffer_after, place_after, PutPromise}
@@ -113,10 +112,16 @@ module _ (b : List ℕ) (at : ℕ) (s : List ℕ) (room : at + length s ≤ leng
       ∙ ap (λ (l : List ℕ). l ++ drop (n + length t) b) (append_assoc (take at b) s t)
       ∙ ap (λ (k : ℕ). take at b ++ (s ++ t) ++ drop k b) end
 
--- a text that is copied over as many bytes
-pub copied : (b : List ℕ) (at k : ℕ) (s t : List ℕ) → k ≡ length t → s ≡ t → put_mid at k b s ≡ placed b at t
+-- a text that is stored byte by byte: none, one more, and all
+pub bytes_none : (b : List ℕ) (at : ℕ) (t : List ℕ) → b ≡ paste b at t 0
+bytes_none b at t = paste-zero b at t
+
+pub bytes_more : (b b' : List ℕ) (at i : ℕ) (t : List ℕ) → b' ≡ paste b at t i → at + i < length b → i < length t → set b' (at + i) (get_or t i 0) ≡ paste b at t (i + 1)
+bytes_more b b' at i t e room h = rw (e, add-one) (paste-suc b at t i 0 room h)
+
+pub bytes_all : (b b' : List ℕ) (at i : ℕ) (t : List ℕ) → b' ≡ paste b at t i → i ≡ length t → b' ≡ placed b at t
 unfolding placed
-copied b at k s t e same = rw (same, e, drop-drop (length t) at b) (sym (append_assoc (take at b) t (drop (at + length t) b)))
+bytes_all b b' at i t e all = simp take-length at (rw all at e)
 
 pub placed_none : (b : List ℕ) (at : ℕ) → b ≡ placed b at []
 unfolding placed

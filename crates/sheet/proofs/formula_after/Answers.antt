@@ -10,4 +10,4 @@ returns c =
     let part = c.copy_from_slice.ensures in
     let e : c.copy_from_slice.new.self ≡ take c.min-end.result a.bytes.now = search rules in
     let whole = copied a.bytes.now _ c.min-end.result refl c.min-end.ensures in
-    (rw e at c.read_formula.ensures) ∙ ap formula_read (copy_parse a.bytes.now _ a.m a.nodes c.requires whole.1)
+    c.read.ensures ∙ (rw e at c.read_formula-ended.ensures) ∙ ap formula_read (copy_parse a.bytes.now _ a.m a.nodes c.requires whole.1)
