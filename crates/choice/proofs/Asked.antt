@@ -1,6 +1,6 @@
 -- Triples and marks that are known as putting a line asks it: sorted by source and rising, and the marks of all their pairs. Then they are a `Triples`
 -- and a `Marked`, whatever the bytes around them, so that these types ask no more. Assumes nothing.
-use Prim.Native.Nat.{ℕ, ◌+◌, ◌*◌, ◌/◌, ◌%◌, ◌<◌}
+use Prim.Native.Nat.{ℕ, ◌/◌, ◌%◌}
 use mathlib.Core.Path.{◌≡◌, ap}
 use mathlib.Core.List.{List}
 use native.Mathlib.Omega.{arith}

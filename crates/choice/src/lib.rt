@@ -11,7 +11,7 @@ use ranges::Triples;
 
 pub mod line;
 
-// The triples of an accepted chart with the marks of its pairs: that of (p, q) is the byte at p * n + q of the matrix.
+// Rising triples of n states with the marks of all pairs of these: that of (p, q) is the byte at p * n + q of the matrix.
 #[derive(Drop)]
 pub struct Marked<'a> {
     pub triples: &'a Triples<'a>,

@@ -103,8 +103,8 @@ impl Ended {
 }
 
 // The formula at the next place, of at most so many nodes as are left, in the first len bytes; then what is unread goes on after it, or from its first
-// fault. Nodes used up are told before the next byte is looked at. The answer is one small value, and no refusal: by it the call for the last operand
-// is a jump, and a formula that is nested deeply takes no more room or time for each operand than one that is not.
+// fault. Nodes used up are told before the next byte is looked at. The answer is one small value, and no `Result`: by it the call for a last operand is
+// a jump, so that diamonds, boxes and last operands keep no frame, however deeply they are nested; a first operand keeps one.
 #[tactic(auto, using(crate::proofs::Reading::formula_by_node))]
 fn read_formula(bytes: &[u8; 512], len: usize, m: usize, next: &mut Unread) -> Ended
     requires { (length bytes.now ≡ 512) × (next.old.at + 2 * next.old.left ≤ 510) }

@@ -100,19 +100,17 @@ fn first_variable(sheet: &[u8]) -> Option<usize>
     None
 }
 
-// The form's sheet, which has room, in the start of the buffer. Answers its length.
+// The form's sheet, which has room, in the start of the buffer.
 #[tactic(auto, using(crate::proofs::Pieces::pieces_put))]
-fn put_form(buffer: &mut [u8], sheet: &[u8], name: Name, total: u8) -> usize
+fn put_form(buffer: &mut [u8], sheet: &[u8], name: Name, total: u8)
     requires in_bounds { 3 ≤ length sheet.now }
     requires room { length sheet.now + 1 + length (operand_of (number_of name)) ≤ length buffer.old }
-    ensures value { result ≡ length sheet.now + 1 + length (operand_of (number_of name)) }
-    ensures buffer_after { buffer.new ≡ placed buffer.old 0 (1 ∷ kind_written (number_of name) ∷ total ∷ operator_of (number_of name) ∷ (drop 3 sheet.now ++ operand_of (number_of name))) }
+    ensures { buffer.new ≡ placed buffer.old 0 (1 ∷ kind_written (number_of name) ∷ total ∷ operator_of (number_of name) ∷ (drop 3 sheet.now ++ operand_of (number_of name))) }
 {
     let mut page = Page::new(buffer);
     page.put_bytes(&[1, name.kind_written(), total, name.operator()]);
     page.put_bytes(&sheet[3..]);
     page.put_bytes(name.operand());
-    page.at
 }
 
 // The form of an accepted sheet of so many nodes.
@@ -133,7 +131,8 @@ fn of_formula(sheet: &[u8], count: usize, name: u64, buffer: &mut [u8]) -> Resul
     if buffer.len() < size {
         return Err(Refusal::of_lent(14));
     }
-    Ok(put_form(buffer, sheet, name, total as u8))
+    put_form(buffer, sheet, name, total as u8);
+    Ok(size)
 }
 
 // The form of a sheet, or its refusal.

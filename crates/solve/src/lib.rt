@@ -132,7 +132,7 @@ fn kind_of(byte: u8) -> Kind
     }
 }
 
-// The same, with the kind by its byte: any may be given.
+// As `solve_kind`, with the kind by its byte: callers may give any, as they could before the kinds had names.
 pub fn solve_in_room(
     chart: &AcceptedChart,
     sheet: &[u8],
