@@ -9,3 +9,4 @@ pub mod Beginning
 pub mod Line
 pub mod Rising
 pub mod Order
+pub mod Fine

@@ -1,4 +1,5 @@
 pub mod Chart
 pub mod Layout
 pub mod Reading
+pub mod Fine
 pub mod Fault

@@ -1,7 +1,8 @@
 // Reading a chart: each byte judged as read, the first fault refused.
 #![tactic(auto)]
 
-ghost use Rattle.std.specs.Prelude.{◌≡◌, ◌+◌, ◌*◌, ◌≤◌, ◌<◌, length, get_or, Ok, Err, MatchResult};
+ghost use Rattle.std.specs.Prelude.{◌≡◌, ◌+◌, ◌*◌, ◌≤◌, ◌<◌, ◌↔◌, true, length, get_or, Ok, Err, MatchResult};
+ghost use Rattle.chart.specs.Fine.{rank, Fine};
 ghost use Rattle.chart.specs.Reading.{and_then, presence, step_at, code_order, judge_codes, judge_byte, earlier, triple_order, judge_triple, judge_triples, read_transitions, read_actions, read_chart, AcceptedExactly};
 
 use refusal::Refusal;
@@ -87,7 +88,8 @@ fn triple_order(bytes: &[u8], p: usize, i: usize) -> Result<(), Refusal>
     Err(Refusal::of_chart(7, i, 0))
 }
 
-// Triple number i, which stands at p: each byte as it is read, then the order.
+// Triple number i, which stands at p: each byte as it is read, then the order. It is called where a triple is at fault, so once at most.
+#[cold]
 fn judge_triple(bytes: &[u8], n: usize, m: usize, p: usize, i: usize) -> Result<(), Refusal>
     requires { 3 * i ≤ p }
     ensures { result ≡ judge_triple bytes.now n m p i }
@@ -98,13 +100,39 @@ fn judge_triple(bytes: &[u8], n: usize, m: usize, p: usize, i: usize) -> Result<
     triple_order(bytes, p, i)
 }
 
-// The t triples from `at` on, in their order.
-#[tactic(auto, using(crate::proofs::Reading::triples_step, crate::proofs::Reading::triples_none, crate::proofs::Reading::triple_fine))]
+// The rank of a triple: the greater of two has the greater one.
+fn rank(source: u8, action: u8, target: u8) -> u32
+    ensures { result ≡ rank source action target }
+{
+    65536 * u32::from(source) + 256 * u32::from(action) + u32::from(target)
+}
+
+// Whether the triple at p is there, in range, and not below the least rank that it may have: then nothing in it is at fault.
+fn is_fine(bytes: &[u8], n: usize, m: usize, p: usize, least: u32) -> bool
+    requires { p ≤ length bytes.now }
+    ensures { (result ≡ true) ↔ Fine bytes.now n m p least }
+{
+    bytes.len() - p >= 3
+        && usize::from(bytes[p]) < n
+        && usize::from(bytes[p + 1]) < m
+        && usize::from(bytes[p + 2]) < n
+        && least <= rank(bytes[p], bytes[p + 1], bytes[p + 2])
+}
+
+// The t triples from `at` on, in their order. The first that is not fine is judged byte by byte, which tells its fault; one that is fine is not, since
+// reading the triples is much of many a call.
+#[tactic(auto, using(crate::proofs::Reading::triples_none))]
 fn judge_triples(bytes: &[u8], n: usize, m: usize, at: usize, t: usize) -> Result<(), Refusal>
+    requires { at ≤ length bytes.now }
     ensures { result ≡ judge_triples bytes.now n m at 0 t }
 {
+    let mut least = 0;
     for i in 0..t {
-        judge_triple(bytes, n, m, at + 3 * i, i)?;
+        let p = at + 3 * i;
+        if !is_fine(bytes, n, m, p, least) {
+            return judge_triple(bytes, n, m, p, i);
+        }
+        least = rank(bytes[p], bytes[p + 1], bytes[p + 2]) + 1;
     }
     Ok(())
 }

@@ -36,12 +36,12 @@ fn line_at(list: &[u8], place: usize) -> Line
     }
 }
 
-// Whether (x, y) is listed already: it is in the words.
+// Whether (x, y) is listed already: it is in the words. (Both are states, so `words::has` would ask once more for each whether it is below 64.)
 fn listed(rows: &[u64; 64], x: u8, y: u8) -> bool
-    requires { x < 64 }
+    requires { (x < 64) × (y < 64) }
     ensures { result ≡ in_words rows.now (x, y) }
 {
-    words::has(rows[usize::from(x)], y)
+    (rows[usize::from(x)] >> y) % 2 == 1
 }
 
 // Whether some step of s bears the action and leads to the target.

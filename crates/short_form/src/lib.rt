@@ -6,7 +6,7 @@ ghost use Rattle.settle.specs.Test.{pick};
 ghost use Rattle.sheet.specs.Formula.{Formula, nodes, variable_free};
 ghost use Rattle.sheet.specs.Layout.{encode};
 ghost use Rattle.sheet.specs.Reading.{read_sheet};
-ghost use Rattle.text.specs.Text.{placed};
+ghost use Rattle.text.specs.Text.{placed, Puts};
 ghost use Rattle.lent.specs.Lent.{LentPromise};
 ghost use Rattle.short_form.specs.ShortForm.{kind_written};
 ghost use Rattle.short_form.specs.Promise.{before_variable, form_of, form_of_sheet, outcome_of, ShortFormPromise};
@@ -72,15 +72,25 @@ impl Name {
         }
     }
 
-    // The second operand of the form, after F.
-    fn operand(self) -> &'static [u8]
-        ensures { result.now ≡ operand_of (number_of self) }
+    // How many bytes follow F.
+    fn operand_size(self) -> usize
+        ensures { result ≡ length (operand_of (number_of self)) }
     {
         match self {
-            Name::Always => &[6, 255, 0],
-            Name::Possible => &[5, 255, 0],
-            Name::SafePath => &[4, 6, 255, 2, 5, 255, 0],
-            Name::Eventually => &[3, 5, 255, 1, 6, 255, 0],
+            Name::Always | Name::Possible => 3,
+            Name::SafePath | Name::Eventually => 7,
+        }
+    }
+
+    // The second operand of the form, after F.
+    fn put_operand(self, page: &mut Page)
+        ensures { Puts page.old (operand_of (number_of self)) page.new }
+    {
+        match self {
+            Name::Always => page.put_bytes(&[6, 255, 0]),
+            Name::Possible => page.put_bytes(&[5, 255, 0]),
+            Name::SafePath => page.put_bytes(&[4, 6, 255, 2, 5, 255, 0]),
+            Name::Eventually => page.put_bytes(&[3, 5, 255, 1, 6, 255, 0]),
         }
     }
 }
@@ -110,7 +120,7 @@ fn put_form(buffer: &mut [u8], sheet: &[u8], name: Name, total: u8)
     let mut page = Page::new(buffer);
     page.put_bytes(&[1, name.kind_written(), total, name.operator()]);
     page.put_bytes(&sheet[3..]);
-    page.put_bytes(name.operand());
+    name.put_operand(&mut page);
 }
 
 // The form of an accepted sheet of so many nodes.
@@ -127,7 +137,7 @@ fn of_formula(sheet: &[u8], count: usize, name: u64, buffer: &mut [u8]) -> Resul
     if 200 < total {
         return Err(Refusal::of_sheet(10, 2));
     }
-    let size = sheet.len() + 1 + name.operand().len();
+    let size = sheet.len() + 1 + name.operand_size();
     if buffer.len() < size {
         return Err(Refusal::of_lent(14));
     }

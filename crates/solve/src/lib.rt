@@ -47,7 +47,9 @@ fn round(work: &mut Work, nodes: usize, set: u64) -> u64
     work.eval_formula(&mut next, set)
 }
 
-// Applications until one changes nothing, at most 4,096 that do. The chart's steps are made into words first, once, in words that are 0.
+// Applications until one changes nothing, at most 4,096 that do. The chart's steps are made into words first, once, in words that are 0. (Each size has
+// it inline: a small chart would pay for an answer that is handed on from call to call.)
+#[inline(always)]
 #[tactic(auto, using(crate::proofs::Solving::by_rounds))]
 fn solve(
     chart: &AcceptedChart,

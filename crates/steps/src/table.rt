@@ -107,8 +107,9 @@ pub fn fill(chart: &AcceptedChart, direction: Direction, into: &mut [u64])
     requires n_in_bounds { (chart.now.shape.m + 1) * chart.now.shape.n ≤ length into.old }
     ensures { Table chart.now.shape.n chart.now.shape.m (directed direction (chart_in chart.now.bytes.now chart.now.shape).steps) into.new }
 {
+    let chart = *chart; // a copy, which no write to the words can change: so its counts are not read again for each triple
     let mut i = 0;
     for s in 0..chart.shape.n {
-        i = add_steps(chart, direction, s, i, into);
+        i = add_steps(&chart, direction, s, i, into);
     }
 }

@@ -46,7 +46,7 @@ returns-then-buffer-size c kind f e n =
     let k : ℕ = number_of c.in_ok-name.name in
     let name : a.name ≡ k = named a.name _ c.in_ok-name.ensures in
     let few : nodes (short_form k f) ≤ 200 = omega (arith, c.more_nodes.ensures, form_nodes k f) in
-    rw name (promise_short a.buffer.now (ap outcome_of (form_made k f free (name_few c.in_ok-name.name) few)) (omega (arith, form_length a.sheet.now kind f e k, ap length c.operand.ensures)) c.of_lent.ensures)
+    rw name (promise_short a.buffer.now (ap outcome_of (form_made k f free (name_few c.in_ok-name.name) few)) (omega (arith, form_length a.sheet.now kind f e k, c.operand_size.ensures)) c.of_lent.ensures)
 
 pub returns : goal.returns
 returns c kind f e n =
@@ -55,7 +55,7 @@ returns c kind f e n =
     let k : ℕ = number_of c.in_ok-name.name in
     let name : a.name ≡ k = named a.name _ c.in_ok-name.ensures in
     let total : a.count + c.more_nodes.result ≡ nodes (short_form k f) = omega (arith, c.more_nodes.ensures, form_nodes k f) in
-    let size : length a.sheet.now + 1 + length c.operand.result.now ≡ length (encode (kind_written k) (short_form k f)) = omega (arith, form_length a.sheet.now kind f e k, ap length c.operand.ensures) in
+    let size : length a.sheet.now + 1 + c.operand_size.result ≡ length (encode (kind_written k) (short_form k f)) = omega (arith, form_length a.sheet.now kind f e k, c.operand_size.ensures) in
     let bytes : c.put_form.new.buffer ≡ placed a.buffer.now 0 (encode (kind_written k) (short_form k f)) = rw (form_encoded a.sheet.now kind f e k _ total) at c.put_form.ensures in
-    let room : length (encode (kind_written k) (short_form k f)) ≤ length a.buffer.now = omega (arith, form_length a.sheet.now kind f e k, ap length c.operand.ensures) in
+    let room : length (encode (kind_written k) (short_form k f)) ≤ length a.buffer.now = omega (arith, form_length a.sheet.now kind f e k, c.operand_size.ensures) in
     rw name (promise_written a.buffer.now (ap outcome_of (form_made k f free (name_few c.in_ok-name.name) (omega (arith, total)))) room size bytes)
