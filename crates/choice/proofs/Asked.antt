@@ -7,16 +7,16 @@ use native.Mathlib.Omega.{arith}
 use lib.ListN.{get_or}
 use Rattle.chart.specs.declared.Shape.{Shape}
 use Rattle.nearness.proofs.Rounds.{near_rounds, mark_le}
-use Rattle.ranges.specs.Sources.{Sorted, TriplesRise, Ranged, steps_by}
+use Rattle.ranges.specs.Sources.{Sorted, TriplesRise, Ordered, steps_by}
 use Rattle.ranges.proofs.Ranges.{targets_below}
-use Rattle.ranges.proofs.Rising.{rise_ranged}
+use Rattle.ranges.proofs.Rising.{rise_ordered}
 use Rattle.relation.proofs.Cells.{row_in, column_in, pair_cell}
 use Rattle.reason.specs.Own.{MarksAre}
 use Rattle.choice.specs.Choice.{mark_in, MarksBelow}
 
 pub asks_no_more : (bytes : List ℕ) (sh : Shape) (at : ℕ) (first matrix : List ℕ) → Sorted bytes at sh.n first → TriplesRise bytes at (get_or first sh.n 0)
-    → get_or first sh.n 0 ≡ sh.t → MarksAre sh.n (steps_by bytes at sh.n first) (mark_in sh.n matrix) → Ranged bytes sh at first × MarksBelow sh.n matrix
-asks_no_more bytes sh at first matrix w rise all marks = (rise_ranged w rise all, below)
+    → get_or first sh.n 0 ≡ sh.t → MarksAre sh.n (steps_by bytes at sh.n first) (mark_in sh.n matrix) → Ordered bytes sh at first × MarksBelow sh.n matrix
+asks_no_more bytes sh at first matrix w rise all marks = (rise_ordered w rise all, below)
   where
     below : MarksBelow sh.n matrix
     below y h =

@@ -12,7 +12,8 @@ use Rattle.chart.specs.declared.Shape.{Shape}
 use Rattle.chart.proofs.Steps.{step_member}
 use Rattle.chart.proofs.Accepted.{Accepted, accepted, sources_rise}
 use Rattle.sheet.proofs.Meaning.{TargetsBelow}
-use Rattle.ranges.specs.Sources.{source_at, Stands, Sorted, Ranged, steps_by}
+use Rattle.ranges.specs.Sources.{source_at, Stands, Sorted, Ordered, Ranged, steps_by}
+use Rattle.ranges.proofs.Rising.{ranged_ordered}
 
 module _ (bytes : List ℕ) (at n : ℕ) (first : List ℕ) (w : Sorted bytes at n first) where
   abbrev t : ℕ
@@ -57,6 +58,10 @@ stands_read bytes sh e = stands_chart bytes sh (accepted bytes sh e)
 pub shape_few : (bytes : List ℕ) (sh : Shape) → read_chart bytes ≡ Ok sh → (sh.n ≤ 64) × (sh.m ≤ 32)
 shape_few bytes sh e = let a = accepted bytes sh e in (a.states_few, a.actions_few)
 
--- the triples of a chart, all of them, are its steps
-pub steps_are : {bytes : List ℕ} {sh : Shape} {at : ℕ} {first : List ℕ} → at ≡ 4 + sh.n + sh.m → Ranged bytes sh at first → steps_by bytes at sh.n first ≡ (chart_in bytes sh).steps
-steps_are e r = rw (e, r.all_are)
+-- all triples from where those of a chart begin are its steps
+pub ordered_steps : {bytes : List ℕ} {sh : Shape} {at : ℕ} {first : List ℕ} → at ≡ 4 + sh.n + sh.m → Ordered bytes sh at first → steps_by bytes at sh.n first ≡ (chart_in bytes sh).steps
+ordered_steps e r = rw (e, r.all_are)
+
+-- the triples of an accepted chart, with their sources, are its steps
+pub steps_are : {bytes : List ℕ} {sh : Shape} {at : ℕ} {first : List ℕ} → Ranged bytes sh at first → steps_by bytes at sh.n first ≡ (chart_in bytes sh).steps
+steps_are r = ordered_steps r.at_is (ranged_ordered r)

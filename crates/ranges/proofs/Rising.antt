@@ -14,7 +14,7 @@ use Rattle.chart.specs.declared.Shape.{Shape}
 use Rattle.chart.proofs.Accepted.{Accepted, accepted}
 use Rattle.chart.proofs.Judging.{earlier_is, is_earlier}
 use Rattle.chart.proofs.Rising.{less_trans}
-use Rattle.ranges.specs.Sources.{Sorted, TriplesRise, Ranged}
+use Rattle.ranges.specs.Sources.{Sorted, TriplesRise, Ordered, Ranged}
 
 earlier_trans : (a b c : Step) → Earlier a b → Earlier b c → Earlier a c
 earlier_trans a b c = less_trans a.source a.action a.target b.source b.action b.target c.source c.action c.target
@@ -40,10 +40,17 @@ pub rise_read : (bytes : List ℕ) (sh : Shape) (t : ℕ) → read_chart bytes �
     → (i j : ℕ) → i < j → j < t → So (earlier (step_at bytes (4 + sh.n + sh.m + 3 * i)) (step_at bytes (4 + sh.n + sh.m + 3 * j)))
 rise_read bytes sh t read e i j h k = is_earlier _ _ (triples_rise bytes sh (accepted bytes sh read) i j h (omega arith))
 
-pub ranged_rise : {bytes : List ℕ} {sh : Shape} {at : ℕ} {first : List ℕ} → Ranged bytes sh at first → TriplesRise bytes at (get_or first sh.n 0)
-ranged_rise r i j h k = earlier_is _ _ (r.rise i j h k)
+pub ordered_rise : {bytes : List ℕ} {sh : Shape} {at : ℕ} {first : List ℕ} → Ordered bytes sh at first → TriplesRise bytes at (get_or first sh.n 0)
+ordered_rise r i j h k = earlier_is _ _ (r.rise i j h k)
 
 -- so are triples that are known to rise as they were asked to before
-pub rise_ranged : {bytes : List ℕ} {sh : Shape} {at : ℕ} {first : List ℕ} → Sorted bytes at sh.n first → TriplesRise bytes at (get_or first sh.n 0) → get_or first sh.n 0 ≡ sh.t
-    → Ranged bytes sh at first
-rise_ranged w rise all = record { sorted = w; rise = λ i j h k. is_earlier _ _ (rise i j h k); all_are = all }
+pub rise_ordered : {bytes : List ℕ} {sh : Shape} {at : ℕ} {first : List ℕ} → Sorted bytes at sh.n first → TriplesRise bytes at (get_or first sh.n 0) → get_or first sh.n 0 ≡ sh.t
+    → Ordered bytes sh at first
+rise_ordered w rise all = record { sorted = w; rise = λ i j h k. is_earlier _ _ (rise i j h k); all_are = all }
+
+-- and so are those of a chart
+pub ranged_ordered : {bytes : List ℕ} {sh : Shape} {at : ℕ} {first : List ℕ} → Ranged bytes sh at first → Ordered bytes sh at first
+ranged_ordered {bytes} {sh} r = record { sorted = r.sorted; rise = rw r.at_is (rise_read bytes sh _ r.read r.all_are); all_are = r.all_are }
+
+pub ranged_rise : {bytes : List ℕ} {sh : Shape} {at : ℕ} {first : List ℕ} → Ranged bytes sh at first → TriplesRise bytes at (get_or first sh.n 0)
+ranged_rise r = ordered_rise (ranged_ordered r)

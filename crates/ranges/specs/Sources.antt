@@ -1,9 +1,9 @@
 -- Where the steps of a state stand among the triples of a chart of n states, which lie from `at` on.
-use Rattle.std.specs.Prelude.{ℕ, ◌+◌, ◌*◌, ◌≤◌, ◌<◌, ◌≡◌, Bool, true, false, List, length, get_or}
+use Rattle.std.specs.Prelude.{ℕ, ◌+◌, ◌*◌, ◌≤◌, ◌<◌, ◌≡◌, Bool, true, false, Ok, List, length, get_or}
 use Rattle.std.proofs.Math.Bool.{So}
 use Rattle.chart.specs.Chart.{Step}
 use Rattle.chart.specs.Layout.{Earlier}
-use Rattle.chart.specs.Reading.{step_at, steps_at, earlier}
+use Rattle.chart.specs.Reading.{step_at, steps_at, earlier, read_chart}
 use Rattle.chart.specs.declared.Shape.{Shape}
 
 abbrev pub source_at : List ℕ → ℕ → ℕ → ℕ
@@ -51,9 +51,16 @@ abbrev pub TriplesRise : List ℕ → ℕ → ℕ → Type 0
 TriplesRise bytes at t = (i j : ℕ) → i < j → j < t → Earlier (step_at bytes (at + 3 * i)) (step_at bytes (at + 3 * j))
 
 -- the triples from `at` on, as many as the shape says, with their sources: they rise (`TriplesRise`, said by a test)
-pub record Ranged (bytes : List ℕ) (sh : Shape) (at : ℕ) (first : List ℕ) : Type 0 where
+pub record Ordered (bytes : List ℕ) (sh : Shape) (at : ℕ) (first : List ℕ) : Type 0 where
   pub sorted : Sorted bytes at sh.n first
   pub rise : (i j : ℕ) → i < j → j < get_or first sh.n 0 → So (earlier (step_at bytes (at + 3 * i)) (step_at bytes (at + 3 * j)))
+  pub all_are : get_or first sh.n 0 ≡ sh.t
+
+-- the triples of the chart in the bytes, whose counts are those of the shape, with their sources
+pub record Ranged (bytes : List ℕ) (sh : Shape) (at : ℕ) (first : List ℕ) : Type 0 where
+  pub read : read_chart bytes ≡ Ok sh
+  pub at_is : at ≡ 4 + sh.n + sh.m
+  pub sorted : Sorted bytes at sh.n first
   pub all_are : get_or first sh.n 0 ≡ sh.t
 
 -- the answer says whether each triple of s that bears the action leads to a state that passes

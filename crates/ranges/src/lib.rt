@@ -2,7 +2,7 @@
 #![tactic(auto)]
 
 ghost use Rattle.std.specs.Prelude.{◌≡◌, ℕ, Bool, ◌+◌, ◌*◌, ◌≤◌, ◌<◌, length, get_or};
-ghost use Rattle.ranges.specs.Sources.{Stands, Past, Sorted, Ranged, Leads, action_at, target_at};
+ghost use Rattle.ranges.specs.Sources.{Stands, Past, Sorted, Ordered, Ranged, Leads, action_at, target_at};
 
 use chart::{AcceptedChart, Shape};
 
@@ -14,7 +14,7 @@ pub struct Triples<'a> {
     pub shape: Shape,
     pub at: usize,
     pub first: [usize; 65],
-    ghost ranged: { Ranged bytes.now shape at first },
+    ghost ranged: { Ordered bytes.now shape at first },
 }
 
 // The first triple from `from` on whose source is not below s; t where there is none.
@@ -49,7 +49,7 @@ impl<'a> Triples<'a> {
     // The triples of the chart.
     #[tactic(auto, using(crate::proofs::Ranges::stands_read, crate::proofs::Ranges::shape_few, crate::proofs::Rising::rise_read))]
     pub fn of(chart: &AcceptedChart<'a>) -> Triples<'a>
-        ensures { (result.bytes.now ≡ chart.now.bytes.now) × (result.shape ≡ chart.now.shape) × (result.at ≡ 4 + result.shape.n + result.shape.m) }
+        ensures { (result.bytes.now ≡ chart.now.bytes.now) × (result.shape ≡ chart.now.shape) × (result.at ≡ 4 + result.shape.n + result.shape.m) × Ranged result.bytes.now result.shape result.at result.first }
     {
         let bytes = chart.bytes;
         let shape = chart.shape;

@@ -10,6 +10,7 @@ use Rattle.chart.specs.Chart.{Step}
 use Rattle.chart.specs.Reading.{chart_in, read_chart}
 use Rattle.chart.specs.declared.Shape.{Shape}
 use Rattle.chart.proofs.Accepted.{accepted}
+use Rattle.ranges.specs.Sources.{Ranged}
 use Rattle.ranges.specs.Triples.{steps_of}
 use Rattle.ranges.specs.declared.Triples.{Triples}
 use Rattle.ranges.proofs.Ranges.{steps_are}
@@ -80,10 +81,10 @@ module _ (chart : List ℕ) where
 
 -- ---- over the triples of the chart
 
-module _ (t : Triples) (read : read_chart t.bytes.now ≡ Ok t.shape) (all : t.at ≡ 4 + t.shape.n + t.shape.m) where
+module _ (t : Triples) (r : Ranged t.bytes.now t.shape t.at t.first) where
   -- the matrix has their marks
   pub triples_marked : {bytes old new : List ℕ} → t.bytes.now ≡ bytes → 4096 ≡ length old → {given : Matrix} → MarksPromise bytes old new (Ok given)
       → (t.shape.n * t.shape.n ≤ length new) × MarksAre t.shape.n (steps_of t) (mark_in t.shape.n new) × MarksBelow t.shape.n new
   triples_marked {bytes} {old} {new} e room {given} p =
       let q : MarksPromise t.bytes.now old new (Ok given) = rw e p in
-      (marks_stand t.bytes.now t.shape read old new room q, rw (steps_are all t.ranged) (marks_are t.bytes.now t.shape read old new room q), marks_below t.bytes.now t.shape read old new room q)
+      (marks_stand t.bytes.now t.shape r.read old new room q, rw (steps_are r) (marks_are t.bytes.now t.shape r.read old new room q), marks_below t.bytes.now t.shape r.read old new room q)

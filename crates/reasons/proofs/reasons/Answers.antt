@@ -11,7 +11,6 @@ returns-in_err-marks c =
 pub invariant_of-write : goal.invariant_of-write
 invariant_of-write c =
     let t = c.of-triples.result in
-    let is = c.of-triples.ensures in
     let p = subst (MarksPromise c.in_ok-chart.chart.bytes.now _ _) c.in_ok-marks.was c.marks.ensures in
-    let w = triples_marked t (rw (is.0, is.1) c.in_ok-chart.chart.read) is.2 is.0 refl p in
+    let w = triples_marked t c.of-triples.ensures.3 c.of-triples.ensures.0 refl p in
     record { room = w.0; marks_are = w.1; marks_below = w.2 }
